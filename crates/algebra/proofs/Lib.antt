@@ -1,0 +1,8 @@
+-- Laws of the algebra, over any modulus q.
+pub mod Tests
+pub mod Modular
+pub mod Primes
+pub mod Inverses
+pub mod Sums
+pub mod Polynomials
+pub mod Interpolation

@@ -1,0 +1,58 @@
+-- Laws of finite sums.
+--
+--   sum-cong sum-≈         equal, or congruent, terms
+--   sum-zero               terms that are all 0
+--   sum-add sum-mul        the sum of sums; a factor taken out
+--   sum-single             only the term at k counts, modulo q
+--   sum-swap               the order of two sums
+use mathlib.Core.Path.{_≡_, refl, sym, ap, ap₂, _∙_}
+use mathlib.Core.Logic.{⊎-elim}
+use Prim.Native.Nat.{ℕ, zero, suc, _+_, _*_, _<_, _≤_}
+use native.Mathlib.Nat.{not-suc-le-zero, mul-zero, mul-add, lt-suc-self}
+use native.Mathlib.Omega.{arith}
+use Rattle.algebra.specs.Sums.{sum}
+use Rattle.algebra.specs.Modular.{⟨_⟩_≈_}
+use Rattle.algebra.proofs.Tests.{eq-or-ne}
+use Rattle.algebra.proofs.Modular.{≈-refl, ≈-add, ≈-trans, ≈-of-eq, ≈-by}
+
+pub sum-cong : (n : ℕ) (f g : ℕ → ℕ) → ((i : ℕ) → i < n → f i ≡ g i) → sum n f ≡ sum n g
+unfolding sum
+sum-cong zero f g h = refl
+sum-cong (suc n) f g h = ap₂ (λ (x y : ℕ). x + y) (sum-cong n f g (λ i l. h i (omega arith))) (h n (lt-suc-self n))
+
+pub sum-≈ : {q : ℕ} (n : ℕ) (f g : ℕ → ℕ) → ((i : ℕ) → i < n → ⟨ q ⟩ f i ≈ g i) → ⟨ q ⟩ sum n f ≈ sum n g
+unfolding sum
+sum-≈ zero f g h = ≈-refl 0
+sum-≈ (suc n) f g h = ≈-add (sum-≈ n f g (λ i l. h i (omega arith))) (h n (lt-suc-self n))
+
+pub sum-zero : (n : ℕ) → sum n (λ i. 0) ≡ 0
+unfolding sum
+sum-zero zero = refl
+sum-zero (suc n) = ap (λ (x : ℕ). x + 0) (sum-zero n)
+
+pub sum-add : (n : ℕ) (f g : ℕ → ℕ) → sum n (λ i. f i + g i) ≡ sum n f + sum n g
+unfolding sum
+sum-add zero f g = refl
+sum-add (suc n) f g = omega (arith, sum-add n f g)
+
+pub sum-mul : (n c : ℕ) (f : ℕ → ℕ) → sum n (λ i. c * f i) ≡ c * sum n f
+unfolding sum
+sum-mul zero c f = sym (mul-zero c)
+sum-mul (suc n) c f = ap (λ (x : ℕ). x + c * f n) (sum-mul n c f) ∙ sym (mul-add c (sum n f) (f n))
+
+pub sum-swap : (n m : ℕ) (f : ℕ → ℕ → ℕ) → sum n (λ i. sum m (f i)) ≡ sum m (λ j. sum n (λ i. f i j))
+unfolding sum
+sum-swap zero m f = sym (sum-zero m)
+sum-swap (suc n) m f = ap (λ (x : ℕ). x + sum m (f n)) (sum-swap n m f) ∙ sym (sum-add m (λ j. sum n (λ i. f i j)) (f n))
+
+-- no term below n counts
+sum-none : {q : ℕ} (n : ℕ) (f : ℕ → ℕ) → ((i : ℕ) → i < n → ⟨ q ⟩ f i ≈ 0) → ⟨ q ⟩ sum n f ≈ 0
+sum-none n f h = ≈-trans (sum-≈ n f (λ i. 0) h) (≈-of-eq (sum-zero n))
+
+pub sum-single : {q : ℕ} (n k : ℕ) (f : ℕ → ℕ) → k < n → ((i : ℕ) → i < n → (i ≡ k → ⊥) → ⟨ q ⟩ f i ≈ 0) → ⟨ q ⟩ sum n f ≈ f k
+unfolding sum
+sum-single zero k f l h = absurd (not-suc-le-zero l)
+sum-single {q} (suc n) k f l h =
+    ⊎-elim (λ (e : n ≡ k). ≈-by (≈-add (sum-none n f (λ i li. h i (omega arith) (λ (s : i ≡ k). omega arith))) (≈-of-eq (ap f e))) (omega arith))
+    (λ (ne : n ≡ k → ⊥). ≈-by (≈-add (sum-single n k f (omega arith) (λ i li. h i (omega arith))) (h n (lt-suc-self n) ne)) (omega arith))
+    (eq-or-ne n k)

@@ -1,0 +1,5 @@
+-- The words of the algebra, a file for each part of it.
+pub mod Lists
+pub mod Sums
+pub mod Modular
+pub mod Polynomials

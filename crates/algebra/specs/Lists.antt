@@ -1,0 +1,26 @@
+-- Lists by index.
+--
+--   tab f n       == f 0, f 1, .., f (n - 1)
+--   AllBelow q xs == each element of xs is below q
+--   allBelow q xs == the same as a test
+--   Distinct xs   == no two places of xs hold the same number
+use mathlib.Core.Path.{_≡_}
+use mathlib.Core.Bool.{Bool, true, false, _&&_}
+use mathlib.Core.List.{List, [], _∷_, _++_}
+use Prim.Native.Nat.{ℕ, zero, suc, _<_}
+use lib.Dec.{ltb}
+use lib.ListN.{length, getD}
+
+unfoldable pub tab {ℓ} : {A : Type ℓ} → (ℕ → A) → ℕ → List A
+tab f zero = []
+tab f (suc n) = tab f n ++ (f n ∷ [])
+
+abbrev pub AllBelow : ℕ → List ℕ → Type 0
+AllBelow q xs = (i : ℕ) → i < length xs → getD xs i 0 < q
+
+unfoldable pub allBelow : ℕ → List ℕ → Bool
+allBelow q [] = true
+allBelow q (x ∷ xs) = ltb x q && allBelow q xs
+
+abbrev pub Distinct : List ℕ → Type 0
+Distinct xs = (i j : ℕ) → i < length xs → j < length xs → getD xs i 0 ≡ getD xs j 0 → i ≡ j
