@@ -17,7 +17,7 @@ use Rattle.algebra.specs.Lists.{tab, AllBelow, Distinct}
 use Rattle.algebra.specs.Sums.{sum}
 use Rattle.algebra.specs.Modular.{⟨_⟩_≈_, Prime, inverse}
 use Rattle.algebra.specs.Polynomials.{ev, scale, add, addRoot, basis, coefficient}
-use Rattle.algebra.proofs.Tests.{eq-or-ne}
+use Rattle.algebra.proofs.Orders.{eq-or-ne}
 use Rattle.algebra.proofs.Modular.{≈-refl, ≈-sym, ≈-add, ≈-trans, ≈-of-eq, ≈-by, ≈-mod, ≈-scale, ≈-mul, ≈-multiple, ≈-exact}
 use Rattle.algebra.proofs.Inverses.{inverse-right}
 use Rattle.algebra.proofs.Sums.{sum-cong, sum-≈, sum-single, sum-mul}

@@ -15,7 +15,7 @@ use native.Mathlib.Nat.{div-add-mod, mod-lt, mod-eq-of-lt, zero-mod, not-suc-le-
 use native.Mathlib.Omega.{arith}
 use lib.Dec.{T, eqb, eqb→eq, eqb-refl}
 use Rattle.algebra.specs.Modular.{⟨_⟩_≈_, Prime, last, inverse}
-use Rattle.algebra.proofs.Tests.{le-or-lt, eq-or-ne}
+use Rattle.algebra.proofs.Orders.{le-or-lt, eq-or-ne}
 use Rattle.algebra.proofs.Modular.{≈-refl, ≈-sym, ≈-trans, ≈-mod, ≈-by, ≈-add, ≈-scale, ≈-mul, ≈-multiple, ≈-exact, ≈-of-eq}
 
 -- ---- the last number that passes a test

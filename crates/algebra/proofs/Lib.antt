@@ -1,5 +1,7 @@
 -- Laws of the algebra, over any modulus q.
+pub mod Orders
 pub mod Tests
+pub mod Lists
 pub mod Modular
 pub mod Primes
 pub mod Inverses

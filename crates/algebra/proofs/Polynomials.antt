@@ -12,11 +12,12 @@ use mathlib.Core.List.{List, [], _∷_, _++_, map}
 use Prim.Native.Nat.{ℕ, zero, suc, _+_, _-_, _*_, _^_, _<_, _≤_, max}
 use native.Mathlib.Nat.{not-suc-le-zero, mul-zero, pow-zero, pow-suc, suc-inj, le-of-suc-le-suc, mul-one}
 use native.Mathlib.Omega.{arith}
-use lib.ListN.{length, getD, length-append}
+use lib.ListN.{length, getD}
 use Rattle.algebra.specs.Lists.{tab}
 use Rattle.algebra.specs.Sums.{sum}
 use Rattle.algebra.specs.Modular.{⟨_⟩_≈_, Prime}
 use Rattle.algebra.specs.Polynomials.{ev, scale, add, addRoot}
+use Rattle.algebra.proofs.Lists.{length-tab}
 use Rattle.algebra.proofs.Modular.{≈-refl, ≈-sym, ≈-add, ≈-trans, ≈-of-eq, ≈-by, ≈-scale, ≈-mul, ≈-multiple}
 use Rattle.algebra.proofs.Inverses.{cancel-difference}
 
@@ -68,11 +69,6 @@ ev-append : (cs ds : List ℕ) (x : ℕ) → ev (cs ++ ds) x ≡ ev cs x + x ^ l
 unfolding ev
 ev-append [] ds x = omega (arith, ap (λ (z : ℕ). z * ev ds x) (pow-zero x))
 ev-append (c ∷ cs) ds x = omega (arith, ap (λ (z : ℕ). x * z) (ev-append cs ds x), ap (λ (z : ℕ). z * ev ds x) (pow-suc x (length cs)))
-
-length-tab : (f : ℕ → ℕ) (n : ℕ) → length (tab f n) ≡ n
-unfolding tab
-length-tab f zero = refl
-length-tab f (suc n) = omega (arith, length-append (tab f n) (f n ∷ []), length-tab f n)
 
 pub ev-tab : (f : ℕ → ℕ) (n x : ℕ) → ev (tab f n) x ≡ sum n (λ e. f e * x ^ e)
 unfolding ev tab sum

@@ -10,7 +10,8 @@ use native.Mathlib.Nat.{div-add-mod, mul-le-mul, mul-mod-left, pow-suc, lt-of-mu
 use native.Mathlib.Omega.{arith}
 use lib.Dec.{T, eqb, T-not, eqb-refl}
 use Rattle.algebra.specs.Modular.{Prime}
-use Rattle.algebra.proofs.Tests.{le-or-lt, and-left, and-right}
+use Rattle.algebra.proofs.Orders.{le-or-lt}
+use Rattle.algebra.proofs.Tests.{and-left, and-right}
 
 unfoldable pub clear : ℕ → ℕ → ℕ → Bool
 clear q zero d = not (eqb (q % d) 0)

@@ -12,7 +12,7 @@ use native.Mathlib.Nat.{not-suc-le-zero, mul-zero, mul-add, lt-suc-self}
 use native.Mathlib.Omega.{arith}
 use Rattle.algebra.specs.Sums.{sum}
 use Rattle.algebra.specs.Modular.{⟨_⟩_≈_}
-use Rattle.algebra.proofs.Tests.{eq-or-ne}
+use Rattle.algebra.proofs.Orders.{eq-or-ne}
 use Rattle.algebra.proofs.Modular.{≈-refl, ≈-add, ≈-trans, ≈-of-eq, ≈-by}
 
 pub sum-cong : (n : ℕ) (f g : ℕ → ℕ) → ((i : ℕ) → i < n → f i ≡ g i) → sum n f ≡ sum n g

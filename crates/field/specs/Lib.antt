@@ -1,0 +1,2 @@
+-- The prime field: its moduli, and elements as signed whole numbers.
+pub mod Modulus

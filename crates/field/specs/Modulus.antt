@@ -1,0 +1,27 @@
+-- The moduli (01, "The job").
+--
+--   moduli      == the primes, by modulus number from 1 on
+--   modulus n   == the prime q of modulus number n, and 0 where n is no modulus number
+--   prime m     == the prime of a modulus
+--   named n     == the modulus of modulus number n
+use mathlib.Core.List.{List, [], _∷_}
+use Prim.Native.Nat.{ℕ}
+use lib.ListN.{getD}
+use Rattle.field.specs.declared.Modulus.{Modulus}
+use Rattle.field.specs.declared.Modulus.the-variants.{Q13, Q257, Q65537}
+use Rattle.field.specs.declared.Named.{Named}
+use Rattle.field.specs.declared.Named.the-variants.{Is, Unknown}
+
+unfoldable pub moduli : List ℕ
+moduli = 13 ∷ 257 ∷ 65537 ∷ []
+
+unfoldable pub modulus : ℕ → ℕ
+modulus n = getD (0 ∷ moduli) n 0
+
+abbrev pub prime : Modulus → ℕ
+prime Q13 = 13
+prime Q257 = 257
+prime Q65537 = 65537
+
+unfoldable pub named : ℕ → Named
+named n = getD (Unknown ∷ Is Q13 ∷ Is Q257 ∷ Is Q65537 ∷ []) n Unknown

@@ -1,0 +1,93 @@
+// The prime field: modulus numbers, powers, inverses, and elements as signed whole numbers.
+ghost use mathlib.Core.Path.{_≡_};
+ghost use Prim.Native.Nat.{_*_, _^_, _%_};
+ghost use Rattle.algebra.specs.Modular.{inverse};
+ghost use Rattle.field.specs.Modulus.{prime, named};
+
+// The moduli of 01: each is the prime in its name.
+pub enum Modulus {
+    Q13,
+    Q257,
+    Q65537,
+}
+
+// What a modulus number stands for.
+pub enum Named {
+    Is(Modulus),
+    Unknown,
+}
+
+// The modulus of a modulus number: 1, 2, 3.
+pub fn modulus_named(number: u32) -> Named
+    ensures { λ r. ⌜ r ≡ named number ⌝ }
+{
+    match number {
+        1 => Named::Is(Modulus::Q13),
+        2 => Named::Is(Modulus::Q257),
+        3 => Named::Is(Modulus::Q65537),
+        _ => Named::Unknown,
+    }
+}
+
+// The prime of a modulus.
+pub fn prime_of(modulus: Modulus) -> u32
+    ensures { λ r. ⌜ r ≡ prime modulus ⌝ }
+{
+    match modulus {
+        Modulus::Q13 => 13,
+        Modulus::Q257 => 257,
+        Modulus::Q65537 => 65537,
+    }
+}
+
+// The product of two numbers, modulo the prime.
+pub fn multiply(modulus: Modulus, a: u32, b: u32) -> u32
+    ensures { λ r. ⌜ r ≡ a * b % prime modulus ⌝ }
+{
+    let q = prime_of(modulus) as u64;
+    (a as u64 * b as u64 % q) as u32
+}
+
+// x to the exponent, modulo the prime, by halving the exponent.
+pub fn power(modulus: Modulus, x: u32, exponent: u32) -> u32
+    ensures { λ r. ⌜ r ≡ x ^ exponent % prime modulus ⌝ }
+{
+    if exponent == 0 {
+        return 1;
+    }
+    let half = power(modulus, x, exponent / 2);
+    let square = multiply(modulus, half, half);
+    if exponent % 2 == 0 {
+        square
+    } else {
+        multiply(modulus, square, x)
+    }
+}
+
+// The inverse of a modulo the prime, by Euclid's remainders of the prime and a; 0 has none, and gives 0.
+pub fn inverse_of(modulus: Modulus, a: u32) -> u32
+    ensures { λ r. ⌜ r ≡ inverse (prime modulus) a ⌝ }
+{
+    let q = prime_of(modulus) as u64;
+    let mut last = q;
+    let mut next = a as u64 % q;
+    if next == 0 {
+        return 0;
+    }
+    // a times a remainder's factor leaves the remainder.
+    let mut last_factor = 0;
+    let mut next_factor = 1;
+    let factor = loop {
+        if next == 0 {
+            break last_factor;
+        }
+        let quotient = last / next;
+        let remainder = last % next;
+        let new_factor = (last_factor + (q - quotient * next_factor % q)) % q;
+        last = next;
+        next = remainder;
+        last_factor = next_factor;
+        next_factor = new_factor;
+    };
+    factor as u32
+}

@@ -1,0 +1,91 @@
+//! The subcommand `lister`: gathers the lister's cases, checks them, writes them with the answers.
+
+use std::collections::BTreeMap;
+
+use crate::cases::{distinct, framed, save};
+use crate::lister::{answer, parse, refused, text};
+use crate::random::Random;
+use crate::{lister_plans, lister_texts, plan_check};
+
+/// The answer to the sheet's example, as the sheet has it.
+const EXAMPLE_ANSWER: &str = "MODULUS 257\nLAYOUT 1\nHOSTS 20\nNEEDED 17\n\
+    A 0 1 6 7 | 10 11\nB 1 3 0 2 | 4 5\nC 1 3 7 9\n";
+
+/// Checks the program, then writes the cases to one file and the answers to the other.
+pub fn write(stdin_file: &str, stdout_file: &str) {
+    plan_check::run();
+    assert_eq!(answer(b"2 4 4 4 2 2 2 2 2 20\n"), EXAMPLE_ANSWER);
+    let inputs = gathered();
+    let answers: Vec<String> = inputs.iter().map(|input| answer(input)).collect();
+    inputs.iter().for_each(|input| reads_back(input));
+    let file = framed(&inputs);
+    assert!(file.len() < 60_000 && inputs.iter().all(|input| input.len() < 200));
+    save(stdin_file, &file);
+    save(stdout_file, answers.concat().as_bytes());
+    report(&answers);
+}
+
+/// All inputs, each once.
+fn gathered() -> Vec<Vec<u8>> {
+    let mut random = Random::new(2026);
+    let mut inputs: Vec<Vec<u8>> = expected_plans();
+    inputs.extend(lister_plans::computed(&mut random).iter().map(text));
+    assert!(inputs.iter().all(|input| answer(input) != refused(26)));
+    let damaged = lister_texts::damaged(&mut random, &inputs);
+    inputs.extend(malformed_texts(&mut random));
+    inputs.extend(damaged);
+    distinct(inputs)
+}
+
+/// The plans that are made to get a certain refusal number or to be accepted; panics if one
+/// gets another answer.
+fn expected_plans() -> Vec<Vec<u8>> {
+    let mut inputs = Vec::new();
+    for (line, number) in lister_plans::expected() {
+        let input = text(&line);
+        assert_eq!(kind(&answer(&input)).0, number, "{line:?}");
+        inputs.push(input);
+    }
+    inputs
+}
+
+/// The malformed inputs; panics if one of them gets another answer than 26.
+fn malformed_texts(random: &mut Random) -> Vec<Vec<u8>> {
+    let inputs = lister_texts::malformed(random);
+    for input in &inputs {
+        assert_eq!(answer(input), refused(26), "{input:?}");
+    }
+    inputs
+}
+
+/// Panics unless the numbers that were read, written again, are the input byte for byte.
+fn reads_back(input: &[u8]) {
+    if let Some(line) = parse(input) {
+        assert_eq!(text(&line), input);
+        assert!(line.iter().all(|&number| number <= 99999));
+    }
+}
+
+/// The kind of an answer: its refusal number and 0, or 0 and its layout.
+fn kind(answer: &str) -> (u32, u32) {
+    let value = |label: &str| {
+        let line = answer.lines().find_map(|line| line.strip_prefix(label));
+        line.map_or(0, |digits| digits.parse().expect("an answer's number"))
+    };
+    (value("REFUSED "), value("LAYOUT "))
+}
+
+/// Prints how many cases there are of each answer kind.
+fn report(answers: &[String]) {
+    let mut counts: BTreeMap<(u32, u32), u32> = BTreeMap::new();
+    for answer in answers {
+        *counts.entry(kind(answer)).or_default() += 1;
+    }
+    for ((number, layout), count) in counts {
+        match number {
+            0 => println!("layout {layout}: {count}"),
+            _ => println!("refused {number}: {count}"),
+        }
+    }
+    println!("cases: {}", answers.len());
+}
