@@ -1,0 +1,2 @@
+-- Laws of refusal chains.
+pub mod Chains
