@@ -2,3 +2,5 @@
 pub mod Moduli
 pub mod Powers
 pub mod Euclid
+pub mod Readings
+pub mod Exactness

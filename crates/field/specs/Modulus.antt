@@ -2,11 +2,14 @@
 --
 --   moduli      == the primes, by modulus number from 1 on
 --   modulus n   == the prime q of modulus number n, and 0 where n is no modulus number
+--   noModulus n == n is no modulus number: the test of refusal 1
 --   prime m     == the prime of a modulus
 --   named n     == the modulus of modulus number n
+use mathlib.Core.Bool.{Bool}
 use mathlib.Core.List.{List, [], _∷_}
 use Prim.Native.Nat.{ℕ}
-use lib.ListN.{getD}
+use lib.ListN.{length, getD}
+use Rattle.refusal.specs.Chain.{outside}
 use Rattle.field.specs.declared.Modulus.{Modulus}
 use Rattle.field.specs.declared.Modulus.the-variants.{Q13, Q257, Q65537}
 use Rattle.field.specs.declared.Named.{Named}
@@ -17,6 +20,9 @@ moduli = 13 ∷ 257 ∷ 65537 ∷ []
 
 unfoldable pub modulus : ℕ → ℕ
 modulus n = getD (0 ∷ moduli) n 0
+
+unfoldable pub noModulus : ℕ → Bool
+noModulus n = outside 1 (length moduli) n
 
 abbrev pub prime : Modulus → ℕ
 prime Q13 = 13

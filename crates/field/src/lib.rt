@@ -1,4 +1,10 @@
 // The prime field: modulus numbers, powers, inverses, and elements as signed whole numbers.
+mod signed;
+
+pub use signed::Element;
+pub use signed::Signed;
+pub use signed::element_of;
+pub use signed::signed_reading;
 ghost use mathlib.Core.Path.{_≡_};
 ghost use Prim.Native.Nat.{_*_, _^_, _%_};
 ghost use Rattle.algebra.specs.Modular.{inverse};

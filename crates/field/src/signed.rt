@@ -1,0 +1,51 @@
+// Elements as signed whole numbers (01, "Signed reading").
+ghost use mathlib.Core.Path.{_≡_};
+ghost use Rattle.field.specs.Signed.{signedAnswer, elementAnswer};
+use crate::Named;
+
+// What signed reading answers.
+pub enum Signed {
+    Value(i64),
+    Refused(u32),
+}
+
+// What the way back answers.
+pub enum Element {
+    Value(u32),
+    Refused(u32),
+}
+
+// The signed reading of element v.
+pub fn signed_reading(number: u32, v: u32) -> Signed
+    ensures { λ r. ⌜ r ≡ signedAnswer number v ⌝ }
+{
+    let Named::Is(modulus) = crate::modulus_named(number) else {
+        return Signed::Refused(refusal::MODULUS);
+    };
+    let q = crate::prime_of(modulus);
+    if q <= v {
+        return Signed::Refused(refusal::ELEMENT);
+    }
+    if v <= (q - 1) / 2 {
+        return Signed::Value(v as i64);
+    }
+    Signed::Value(v as i64 - q as i64)
+}
+
+// The element whose signed reading is a value.
+pub fn element_of(number: u32, value: i64) -> Element
+    ensures { λ r. ⌜ r ≡ elementAnswer number value ⌝ }
+{
+    let Named::Is(modulus) = crate::modulus_named(number) else {
+        return Element::Refused(refusal::MODULUS);
+    };
+    let q = crate::prime_of(modulus);
+    let half = ((q - 1) / 2) as i64;
+    if value < -half || half < value {
+        return Element::Refused(refusal::SIGNED);
+    }
+    if 0 <= value {
+        return Element::Value(value as u32);
+    }
+    Element::Value((value + q as i64) as u32)
+}

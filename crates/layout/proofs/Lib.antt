@@ -1,0 +1,2 @@
+-- Laws of layouts.
+pub mod Nests

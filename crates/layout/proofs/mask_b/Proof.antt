@@ -1,0 +1,22 @@
+use mathlib.Core.Path.{sym, _∙_, ap}
+use borrow.Author.Needs.{needs}
+use Rattle.layout.proofs.mask_b.Statement.{statement}
+use Rattle.layout.proofs.mask_b.Tie as tie
+use Rattle.layout.proofs.mask_b.Reads as reads
+use Rattle.layout.proofs.mask_b.Lts as lts
+use Rattle.layout.proofs.strides_of.Reads as strides-of-reads
+
+-- src/lib.rt:156:9
+strides-of-requires : tie.Need-strides-of-requires
+strides-of-requires c κs = search needs
+
+-- src/lib.rt:157:5
+add-result : tie.Need-add-result
+add-result c = search needs
+
+-- src/lib.rt:153:1
+returns : tie.Need-returns
+returns c = sym (c .before .strides-of .ensures .maskB (c .before .before .args .x))
+
+pub mask-b-spec : {M : Type 1} → statement M
+mask-b-spec = tie.close (tie.spec strides-of-requires add-result returns)

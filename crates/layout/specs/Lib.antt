@@ -1,0 +1,3 @@
+-- Layouts: which exponents the blocks, the masks and the table have.
+pub mod Exponents
+pub mod Strides

@@ -1,0 +1,166 @@
+// Layouts: the exponents of blocks and masks, the places of the table, and the number of answers needed.
+// The numbers of cuts and the group sizes are u8, so that every exponent fits a u32 and nothing has to be refused here.
+ghost use mathlib.Core.Path.{_≡_};
+ghost use Prim.Native.Nat.{_+_, _-_, _*_, _^_, _<_};
+ghost use Rattle.layout.specs.Exponents.{exponents, number, better, choice};
+ghost use Rattle.layout.specs.Strides.{Follows, Nested};
+
+// How the matrices are cut, m by p and p by n blocks, and the largest groups kept ignorant of A and of B.
+pub struct Parameters {
+    pub m: u8,
+    pub p: u8,
+    pub n: u8,
+    pub xa: u8,
+    pub xb: u8,
+}
+
+// The layouts of 01, "Exponents".
+pub enum Layout {
+    First,
+    Second,
+}
+
+// What a layout's exponents are made of: the strides of A's rows and B's columns of blocks, the first masks' exponents,
+// and the number of answers needed.
+struct Strides {
+    stride_a: u32,
+    mask_a: u32,
+    stride_b: u32,
+    mask_b: u32,
+    needed: u32,
+}
+
+// A layout of an outer side, which has the larger stride, and an inner side, whose stride is p.
+struct Nest {
+    stride: u32,
+    outer_mask: u32,
+    inner_mask: u32,
+    needed: u32,
+}
+
+// The layout's number on the sheet.
+pub fn number_of(layout: Layout) -> u32
+    ensures { λ r. ⌜ r ≡ number layout ⌝ }
+{
+    match layout {
+        Layout::First => 1,
+        Layout::Second => 2,
+    }
+}
+
+// a - b, and 0 where b is more.
+fn minus(a: u32, b: u32) -> u32
+    ensures { λ r. ⌜ r ≡ a - b ⌝ }
+{
+    if a < b { 0 } else { a - b }
+}
+
+// count times stride, plus rest.
+fn combine(count: u8, stride: u32, rest: u32) -> u32
+    requires { ⌜ (stride < 2 ^ 16) × (rest < 2 ^ 25) ⌝ }
+    ensures { λ r. ⌜ r ≡ count * stride + rest ⌝ }
+{
+    count as u32 * stride + rest
+}
+
+// The layout whose outer side, with the outer masks, strides over all that the inner side has.
+fn nested(outer: u8, p: u8, inner: u8, outer_masks: u8, inner_masks: u8) -> Nest
+    ensures { λ r. ⌜ Nested outer p inner «outer_masks» «inner_masks» r ⌝ }
+{
+    let blocks = combine(inner, p as u32, 0);
+    let stride = combine(inner, p as u32, inner_masks as u32);
+    let rows = combine(outer, stride, 0);
+    Nest {
+        stride,
+        outer_mask: minus(rows, stride) + blocks,
+        inner_mask: blocks,
+        needed: minus(rows + stride + outer_masks as u32, inner_masks as u32 + 1),
+    }
+}
+
+// The strides of a layout: in layout 1 A is the outer side, in layout 2 B.
+fn strides_of(layout: Layout, g: Parameters) -> Strides
+    ensures { λ r. ⌜ Follows r g (exponents layout g) ⌝ }
+{
+    match layout {
+        Layout::First => {
+            let s = nested(g.m, g.p, g.n, g.xa, g.xb);
+            Strides {
+                stride_a: s.stride,
+                mask_a: s.outer_mask,
+                stride_b: g.p as u32,
+                mask_b: s.inner_mask,
+                needed: s.needed,
+            }
+        }
+        Layout::Second => {
+            let s = nested(g.n, g.p, g.m, g.xb, g.xa);
+            Strides {
+                stride_a: g.p as u32,
+                mask_a: s.inner_mask,
+                stride_b: s.stride,
+                mask_b: s.outer_mask,
+                needed: s.needed,
+            }
+        }
+    }
+}
+
+// K: the number of answers needed.
+pub fn needed(layout: Layout, g: Parameters) -> u32
+    ensures { λ r. ⌜ r ≡ exponents layout g .needed ⌝ }
+{
+    let s = strides_of(layout, g);
+    s.needed
+}
+
+// The layout with the smaller K, at a tie layout 1.
+pub fn choose(g: Parameters) -> Layout
+    ensures { λ r. ⌜ r ≡ choice g ⌝ }
+{
+    if needed(Layout::First, g) <= needed(Layout::Second, g) {
+        Layout::First
+    } else {
+        Layout::Second
+    }
+}
+
+// The exponent of block A(k,l), with k and l from 0.
+pub fn block_a(layout: Layout, g: Parameters, k: u8, l: u8) -> u32
+    ensures { λ r. ⌜ r ≡ exponents layout g .blockA k l ⌝ }
+{
+    let s = strides_of(layout, g);
+    combine(k, s.stride_a, l as u32)
+}
+
+// The exponent of A's mask x, with x from 0.
+pub fn mask_a(layout: Layout, g: Parameters, x: u8) -> u32
+    ensures { λ r. ⌜ r ≡ exponents layout g .maskA x ⌝ }
+{
+    let s = strides_of(layout, g);
+    s.mask_a + x as u32
+}
+
+// The exponent of block B(l,j), with l and j from 0.
+pub fn block_b(layout: Layout, g: Parameters, l: u8, j: u8) -> u32
+    ensures { λ r. ⌜ r ≡ exponents layout g .blockB l j ⌝ }
+{
+    let s = strides_of(layout, g);
+    combine(j, s.stride_b, minus(minus(g.p as u32, 1), l as u32))
+}
+
+// The exponent of B's mask x, with x from 0.
+pub fn mask_b(layout: Layout, g: Parameters, x: u8) -> u32
+    ensures { λ r. ⌜ r ≡ exponents layout g .maskB x ⌝ }
+{
+    let s = strides_of(layout, g);
+    s.mask_b + x as u32
+}
+
+// The place of block C(k,j) among the coefficients of the answers, with k and j from 0.
+pub fn place(layout: Layout, g: Parameters, k: u8, j: u8) -> u32
+    ensures { λ r. ⌜ r ≡ exponents layout g .place k j ⌝ }
+{
+    let s = strides_of(layout, g);
+    combine(k, s.stride_a, combine(j, s.stride_b, minus(g.p as u32, 1)))
+}
