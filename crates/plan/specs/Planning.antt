@@ -1,0 +1,114 @@
+-- Planning (01, "The job" and "What is turned down", Plan).
+--
+--   parameters job       == the job's cuts and group sizes
+--   prime job            == q, the prime of the job's modulus number
+--   modulusOf job        == the modulus of the job's modulus number
+--   blockRows, blockInner, blockColumns == the sizes of blocks: an A block is rows by inner, a B block inner by columns,
+--                           an answer rows by columns
+--   layoutOf, neededOf   == the layout that the job has, and K, its number of answers needed
+--   pointRows q xs i     == the tests of point i
+--   pointTests           == the tests of the points, 9 to 11
+--   planTests            == the tests of a plan, 1 to 11
+--   planned              == what planning answers
+--   numberOf             == the number that an answer of planning stands for: 0 is done
+use mathlib.Core.Bool.{Bool, true, false, not, _||_, _&&_}
+use mathlib.Core.List.{List, [], _∷_, _++_}
+use Prim.Native.Nat.{ℕ, zero, suc, _*_, _/_, _%_}
+use lib.Dec.{leb, ltb, eqb}
+use lib.ListN.{length, getD, take}
+use Rattle.refusal.specs.Chain.{Row, first, answer, outside}
+use Rattle.field.specs.declared.Modulus.{Modulus}
+use Rattle.field.specs.declared.Modulus.the-variants.{Q13}
+use Rattle.field.specs.declared.Named.{Named}
+use Rattle.field.specs.declared.Named.the-variants.{Is, Unknown}
+use Rattle.field.specs.Modulus.{modulus, named, noModulus}
+use Rattle.layout.specs.declared.Parameters.{Parameters}
+use Rattle.layout.specs.declared.Layout.{Layout}
+use Rattle.layout.specs.Exponents.{exponents, choice}
+use Rattle.plan.specs.declared.Job.{Job}
+use Rattle.plan.specs.declared.Plan.{Plan}
+use Rattle.plan.specs.declared.Planned.{Planned}
+use Rattle.plan.specs.declared.Planned.the-variants.{Accepted, Refused}
+
+unfoldable pub parameters : Job → Parameters
+parameters job = record { m = job .m; p = job .p; n = job .n; xa = job .xa; xb = job .xb }
+
+unfoldable pub prime : Job → ℕ
+prime job = modulus (job .modulus)
+
+-- a job whose modulus number is unknown is refused, so what stands here for it does not matter
+abbrev pub known : Named → Modulus
+known (Is m) = m
+known Unknown = Q13
+
+unfoldable pub modulusOf : Job → Modulus
+modulusOf job = known (named (job .modulus))
+
+unfoldable pub blockRows : Job → ℕ
+blockRows job = job .t / job .m
+
+unfoldable pub blockInner : Job → ℕ
+blockInner job = job .s / job .p
+
+unfoldable pub blockColumns : Job → ℕ
+blockColumns job = job .r / job .n
+
+unfoldable pub layoutOf : Job → Layout
+layoutOf job = choice (parameters job)
+
+unfoldable pub neededOf : Job → ℕ
+neededOf job = exponents (layoutOf job) (parameters job) .needed
+
+-- 1
+unfoldable pub modulusTests : Job → List Row
+modulusTests job = (noModulus (job .modulus), 1) ∷ []
+
+-- 2 to 4
+unfoldable pub rangeTests : Job → List Row
+rangeTests job =
+    (outside 1 16384 (job .t) || outside 1 16384 (job .s) || outside 1 16384 (job .r), 2)
+    ∷ (outside 1 8 (job .m) || outside 1 8 (job .p) || outside 1 8 (job .n), 3)
+    ∷ (outside 1 16 (job .xa) || outside 1 16 (job .xb), 4)
+    ∷ []
+
+-- 5 to 8
+unfoldable pub fitTests : Job → List Row
+fitTests job =
+    (not (eqb (job .t % job .m) 0) || not (eqb (job .s % job .p) 0) || not (eqb (job .r % job .n) 0), 5)
+    ∷ (ltb 4096 (blockRows job * blockInner job) || ltb 4096 (blockInner job * blockColumns job) || ltb 4096 (blockRows job * blockColumns job), 6)
+    ∷ (outside 1 64 (job .hosts) || leb (prime job) (job .hosts), 7)
+    ∷ (ltb (job .hosts) (neededOf job), 8)
+    ∷ []
+
+-- x stands in xs
+unfoldable pub member : ℕ → List ℕ → Bool
+member x [] = false
+member x (y ∷ ys) = eqb x y || member x ys
+
+-- 10 and 11 of the point at i: it is 0 or not below q; it equals an earlier one
+unfoldable pub pointRows : ℕ → List ℕ → ℕ → List Row
+pointRows q points i =
+    (eqb (getD points i 0) 0 || leb q (getD points i 0), 10)
+    ∷ (member (getD points i 0) (take i points), 11)
+    ∷ []
+
+-- point by point
+unfoldable pub pointsRows : ℕ → List ℕ → ℕ → List Row
+pointsRows q points zero = []
+pointsRows q points (suc n) = pointsRows q points n ++ pointRows q points n
+
+unfoldable pub pointTests : ℕ → ℕ → List ℕ → List Row
+pointTests q hosts points = (not (eqb (length points) hosts), 9) ∷ pointsRows q points (length points)
+
+unfoldable pub planTests : Job → List ℕ → List Row
+planTests job points = modulusTests job ++ rangeTests job ++ fitTests job ++ pointTests (prime job) (job .hosts) points
+
+unfoldable pub planned : Job → List ℕ → Planned
+planned job points =
+    answer (first (planTests job points))
+    (Accepted (record { modulus = modulusOf job; layout = layoutOf job; needed = neededOf job }))
+    Refused
+
+abbrev pub numberOf : Planned → ℕ
+numberOf (Accepted plan) = 0
+numberOf (Refused n) = n

@@ -1,0 +1,193 @@
+// Planning: a job's numbers and points are tested, and the layout and the number of answers needed are worked out.
+ghost use mathlib.Core.Path.{_≡_};
+ghost use Prim.Native.Nat.{_≤_};
+ghost use lib.ListN.{length, take};
+ghost use Rattle.refusal.specs.Chain.{first};
+ghost use Rattle.plan.specs.Planning.{
+    parameters,
+    prime,
+    neededOf,
+    rangeTests,
+    fitTests,
+    member,
+    pointTests,
+    planned,
+};
+use field::Modulus;
+use field::Named;
+use layout::Layout;
+use layout::Parameters;
+use refusal::any;
+use refusal::outside;
+
+// A job's public numbers: A is t by s and B is s by r; A is cut into m by p blocks, B into p by n; xa and xb are the
+// largest groups kept ignorant of A and of B; number is the job number.
+pub struct Job {
+    pub modulus: u32,
+    pub t: u32,
+    pub s: u32,
+    pub r: u32,
+    pub m: u32,
+    pub p: u32,
+    pub n: u32,
+    pub xa: u32,
+    pub xb: u32,
+    pub hosts: u32,
+    pub number: u32,
+}
+
+// What an accepted job has: its modulus, its layout, and the number of answers needed.
+pub struct Plan {
+    pub modulus: Modulus,
+    pub layout: Layout,
+    pub needed: u32,
+}
+
+// What planning answers.
+pub enum Planned {
+    Accepted(Plan),
+    Refused(u32),
+}
+
+// The largest sizes and numbers of 01, "The job".
+const MOST_SIDE: u32 = 16384;
+const MOST_CUTS: u32 = 8;
+const MOST_GROUP: u32 = 16;
+const MOST_ELEMENTS: u32 = 4096;
+const MOST_HOSTS: u32 = 64;
+
+// Tests 2 to 4: each number by itself.
+fn range_refusal(job: Job) -> u32
+    ensures { λ r. ⌜ r ≡ first (rangeTests job) ⌝ }
+{
+    if any(
+        outside(1, MOST_SIDE, job.t),
+        outside(1, MOST_SIDE, job.s),
+        outside(1, MOST_SIDE, job.r),
+    ) {
+        return refusal::SIZE;
+    }
+    if any(
+        outside(1, MOST_CUTS, job.m),
+        outside(1, MOST_CUTS, job.p),
+        outside(1, MOST_CUTS, job.n),
+    ) {
+        return refusal::CUTS;
+    }
+    if any(
+        outside(1, MOST_GROUP, job.xa),
+        outside(1, MOST_GROUP, job.xb),
+        false,
+    ) {
+        return refusal::GROUPS;
+    }
+    0
+}
+
+// Tests 5 to 8: the numbers together. q is the job's prime, and needed its number of answers needed.
+fn fit_refusal(job: Job, q: u32, needed: u32) -> u32
+    requires { ⌜ first (rangeTests job) ≡ 0 ⌝ }
+    requires { ⌜ (q ≡ prime job) × (needed ≡ neededOf job) ⌝ }
+    ensures { λ r. ⌜ r ≡ first (fitTests job) ⌝ }
+{
+    if any(job.t % job.m != 0, job.s % job.p != 0, job.r % job.n != 0) {
+        return refusal::DIVISION;
+    }
+    let rows = job.t / job.m;
+    let inner = job.s / job.p;
+    let columns = job.r / job.n;
+    if any(
+        MOST_ELEMENTS < rows * inner,
+        MOST_ELEMENTS < inner * columns,
+        MOST_ELEMENTS < rows * columns,
+    ) {
+        return refusal::BLOCK;
+    }
+    if any(outside(1, MOST_HOSTS, job.hosts), q <= job.hosts, false) {
+        return refusal::HOSTS;
+    }
+    if job.hosts < needed {
+        return refusal::NEEDED;
+    }
+    0
+}
+
+// Whether x stands among the first n of the points.
+fn stands_before(points: &[u32], n: usize, x: u32) -> bool
+    requires { ⌜ n ≤ length (now points) ⌝ }
+    ensures { λ r. ⌜ r ≡ member x (take n (now (points .entry))) ⌝ }
+{
+    let mut i = 0;
+    while i < n {
+        if points[i] == x {
+            return true;
+        }
+        i += 1;
+    }
+    false
+}
+
+// Tests 9 to 11: the points, one by one.
+fn point_refusal(q: u32, hosts: u32, points: &[u32]) -> u32
+    ensures { λ r. ⌜ r ≡ first (pointTests q hosts (now (points .entry))) ⌝ }
+{
+    if points.len() != hosts as usize {
+        return refusal::POINTS;
+    }
+    let mut i = 0;
+    while i < points.len() {
+        let x = points[i];
+        if any(x == 0, q <= x, false) {
+            return refusal::POINT;
+        }
+        if stands_before(points, i, x) {
+            return refusal::REPEATED_POINT;
+        }
+        i += 1;
+    }
+    0
+}
+
+// The job's cuts and group sizes, which are small once tests 3 and 4 have passed.
+fn parameters_of(job: Job) -> Parameters
+    requires { ⌜ first (rangeTests job) ≡ 0 ⌝ }
+    ensures { λ r. ⌜ r ≡ parameters job ⌝ }
+{
+    Parameters {
+        m: job.m as u8,
+        p: job.p as u8,
+        n: job.n as u8,
+        xa: job.xa as u8,
+        xb: job.xb as u8,
+    }
+}
+
+// Plans a job: its layout and the number of answers needed, or the number of the first test that fits.
+pub fn plan(job: Job, points: &[u32]) -> Planned
+    ensures { λ r. ⌜ r ≡ planned job (now (points .entry)) ⌝ }
+{
+    let Named::Is(modulus) = field::modulus_named(job.modulus) else {
+        return Planned::Refused(refusal::MODULUS);
+    };
+    let range = range_refusal(job);
+    if range != 0 {
+        return Planned::Refused(range);
+    }
+    let g = parameters_of(job);
+    let layout = layout::choose(g);
+    let needed = layout::needed(layout, g);
+    let q = field::prime_of(modulus);
+    let fit = fit_refusal(job, q, needed);
+    if fit != 0 {
+        return Planned::Refused(fit);
+    }
+    let point = point_refusal(q, job.hosts, points);
+    if point != 0 {
+        return Planned::Refused(point);
+    }
+    Planned::Accepted(Plan {
+        modulus,
+        layout,
+        needed,
+    })
+}
