@@ -25,6 +25,13 @@ pub fn outside(low: u32, high: u32, n: u32) -> bool
     n < low || high < n
 }
 
+// One of two tests holds.
+pub fn either(a: bool, b: bool) -> bool
+    ensures { λ r. ⌜ r ≡ (a || b) ⌝ }
+{
+    if a { true } else { b }
+}
+
 // One of three tests holds.
 pub fn any(a: bool, b: bool, c: bool) -> bool
     ensures { λ r. ⌜ r ≡ (a || b || c) ⌝ }
