@@ -1,0 +1,4 @@
+-- Laws of planning.
+pub mod Ranges
+pub mod Points
+pub mod Answers

@@ -6,9 +6,12 @@
 --   blockRows, blockInner, blockColumns == the sizes of blocks: an A block is rows by inner, a B block inner by columns,
 --                           an answer rows by columns
 --   layoutOf, neededOf   == the layout that the job has, and K, its number of answers needed
+--   sizeTest, cutTest ..  == the tests 2 to 8, each by itself
+--   rangeTests, fitTests  == the tests 2 to 4, of each number by itself, and 5 to 8, of the numbers together
 --   pointRows q xs i     == the tests of point i
 --   pointTests           == the tests of the points, 9 to 11
 --   planTests            == the tests of a plan, 1 to 11
+--   planOf               == the plan of an accepted job
 --   planned              == what planning answers
 --   numberOf             == the number that an answer of planning stands for: 0 is done
 use mathlib.Core.Bool.{Bool, true, false, not, _||_, _&&_}
@@ -59,26 +62,42 @@ layoutOf job = choice (parameters job)
 unfoldable pub neededOf : Job → ℕ
 neededOf job = exponents (layoutOf job) (parameters job) .needed
 
--- 1
-unfoldable pub modulusTests : Job → List Row
-modulusTests job = (noModulus (job .modulus), 1) ∷ []
+-- t, s or r is not 1..16384
+unfoldable pub sizeTest : Job → Bool
+sizeTest job = outside 1 16384 (job .t) || outside 1 16384 (job .s) || outside 1 16384 (job .r)
 
--- 2 to 4
+-- m, p or n is not 1..8
+unfoldable pub cutTest : Job → Bool
+cutTest job = outside 1 8 (job .m) || outside 1 8 (job .p) || outside 1 8 (job .n)
+
+-- X_A or X_B is not 1..16
+unfoldable pub groupTest : Job → Bool
+groupTest job = outside 1 16 (job .xa) || outside 1 16 (job .xb)
+
+-- m does not divide t, or p s, or n r
+unfoldable pub divisionTest : Job → Bool
+divisionTest job = not (eqb (job .t % job .m) 0) || not (eqb (job .s % job .p) 0) || not (eqb (job .r % job .n) 0)
+
+-- an A block, a B block or an answer block has over 4096 elements
+unfoldable pub blockTest : Job → Bool
+blockTest job =
+    ltb 4096 (blockRows job * blockInner job)
+    || ltb 4096 (blockInner job * blockColumns job)
+    || ltb 4096 (blockRows job * blockColumns job)
+
+-- N is not 1..64, or over q - 1
+unfoldable pub hostsTest : Job → Bool
+hostsTest job = outside 1 64 (job .hosts) || leb (prime job) (job .hosts)
+
+-- K is over N
+unfoldable pub neededTest : Job → Bool
+neededTest job = ltb (job .hosts) (neededOf job)
+
 unfoldable pub rangeTests : Job → List Row
-rangeTests job =
-    (outside 1 16384 (job .t) || outside 1 16384 (job .s) || outside 1 16384 (job .r), 2)
-    ∷ (outside 1 8 (job .m) || outside 1 8 (job .p) || outside 1 8 (job .n), 3)
-    ∷ (outside 1 16 (job .xa) || outside 1 16 (job .xb), 4)
-    ∷ []
+rangeTests job = (sizeTest job, 2) ∷ (cutTest job, 3) ∷ (groupTest job, 4) ∷ []
 
--- 5 to 8
 unfoldable pub fitTests : Job → List Row
-fitTests job =
-    (not (eqb (job .t % job .m) 0) || not (eqb (job .s % job .p) 0) || not (eqb (job .r % job .n) 0), 5)
-    ∷ (ltb 4096 (blockRows job * blockInner job) || ltb 4096 (blockInner job * blockColumns job) || ltb 4096 (blockRows job * blockColumns job), 6)
-    ∷ (outside 1 64 (job .hosts) || leb (prime job) (job .hosts), 7)
-    ∷ (ltb (job .hosts) (neededOf job), 8)
-    ∷ []
+fitTests job = (divisionTest job, 5) ∷ (blockTest job, 6) ∷ (hostsTest job, 7) ∷ (neededTest job, 8) ∷ []
 
 -- x stands in xs
 unfoldable pub member : ℕ → List ℕ → Bool
@@ -101,13 +120,13 @@ unfoldable pub pointTests : ℕ → ℕ → List ℕ → List Row
 pointTests q hosts points = (not (eqb (length points) hosts), 9) ∷ pointsRows q points (length points)
 
 unfoldable pub planTests : Job → List ℕ → List Row
-planTests job points = modulusTests job ++ rangeTests job ++ fitTests job ++ pointTests (prime job) (job .hosts) points
+planTests job points = (noModulus (job .modulus), 1) ∷ (rangeTests job ++ (fitTests job ++ pointTests (prime job) (job .hosts) points))
+
+unfoldable pub planOf : Job → Plan
+planOf job = record { modulus = modulusOf job; layout = layoutOf job; needed = neededOf job }
 
 unfoldable pub planned : Job → List ℕ → Planned
-planned job points =
-    answer (first (planTests job points))
-    (Accepted (record { modulus = modulusOf job; layout = layoutOf job; needed = neededOf job }))
-    Refused
+planned job points = answer (first (planTests job points)) (Accepted (planOf job)) Refused
 
 abbrev pub numberOf : Planned → ℕ
 numberOf (Accepted plan) = 0

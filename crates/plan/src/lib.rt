@@ -7,6 +7,13 @@ ghost use Rattle.plan.specs.Planning.{
     parameters,
     prime,
     neededOf,
+    sizeTest,
+    cutTest,
+    groupTest,
+    divisionTest,
+    blockTest,
+    hostsTest,
+    neededTest,
     rangeTests,
     fitTests,
     member,
@@ -18,6 +25,7 @@ use field::Named;
 use layout::Layout;
 use layout::Parameters;
 use refusal::any;
+use refusal::either;
 use refusal::outside;
 
 // A job's public numbers: A is t by s and B is s by r; A is cut into m by p blocks, B into p by n; xa and xb are the
@@ -56,57 +64,107 @@ const MOST_GROUP: u32 = 16;
 const MOST_ELEMENTS: u32 = 4096;
 const MOST_HOSTS: u32 = 64;
 
+// t, s or r is out of range.
+fn size_test(job: Job) -> bool
+    ensures { λ r. ⌜ r ≡ sizeTest job ⌝ }
+{
+    any(
+        outside(1, MOST_SIDE, job.t),
+        outside(1, MOST_SIDE, job.s),
+        outside(1, MOST_SIDE, job.r),
+    )
+}
+
+// m, p or n is out of range.
+fn cut_test(job: Job) -> bool
+    ensures { λ r. ⌜ r ≡ cutTest job ⌝ }
+{
+    any(
+        outside(1, MOST_CUTS, job.m),
+        outside(1, MOST_CUTS, job.p),
+        outside(1, MOST_CUTS, job.n),
+    )
+}
+
+// X_A or X_B is out of range.
+fn group_test(job: Job) -> bool
+    ensures { λ r. ⌜ r ≡ groupTest job ⌝ }
+{
+    either(outside(1, MOST_GROUP, job.xa), outside(1, MOST_GROUP, job.xb))
+}
+
 // Tests 2 to 4: each number by itself.
 fn range_refusal(job: Job) -> u32
     ensures { λ r. ⌜ r ≡ first (rangeTests job) ⌝ }
 {
-    if any(
-        outside(1, MOST_SIDE, job.t),
-        outside(1, MOST_SIDE, job.s),
-        outside(1, MOST_SIDE, job.r),
-    ) {
+    if size_test(job) {
         return refusal::SIZE;
     }
-    if any(
-        outside(1, MOST_CUTS, job.m),
-        outside(1, MOST_CUTS, job.p),
-        outside(1, MOST_CUTS, job.n),
-    ) {
+    if cut_test(job) {
         return refusal::CUTS;
     }
-    if any(
-        outside(1, MOST_GROUP, job.xa),
-        outside(1, MOST_GROUP, job.xb),
-        false,
-    ) {
+    if group_test(job) {
         return refusal::GROUPS;
     }
     0
 }
 
-// Tests 5 to 8: the numbers together. q is the job's prime, and needed its number of answers needed.
-fn fit_refusal(job: Job, q: u32, needed: u32) -> u32
+// A cut does not divide its side.
+fn division_test(job: Job) -> bool
     requires { ⌜ first (rangeTests job) ≡ 0 ⌝ }
-    requires { ⌜ (q ≡ prime job) × (needed ≡ neededOf job) ⌝ }
-    ensures { λ r. ⌜ r ≡ first (fitTests job) ⌝ }
+    ensures { λ r. ⌜ r ≡ divisionTest job ⌝ }
 {
-    if any(job.t % job.m != 0, job.s % job.p != 0, job.r % job.n != 0) {
-        return refusal::DIVISION;
-    }
+    any(job.t % job.m != 0, job.s % job.p != 0, job.r % job.n != 0)
+}
+
+// A block is too large.
+fn block_test(job: Job) -> bool
+    requires { ⌜ first (rangeTests job) ≡ 0 ⌝ }
+    ensures { λ r. ⌜ r ≡ blockTest job ⌝ }
+{
     let rows = job.t / job.m;
     let inner = job.s / job.p;
     let columns = job.r / job.n;
-    if any(
+    any(
         MOST_ELEMENTS < rows * inner,
         MOST_ELEMENTS < inner * columns,
         MOST_ELEMENTS < rows * columns,
-    ) {
+    )
+}
+
+// N is out of range. q is the job's prime.
+fn hosts_test(job: Job, q: u32) -> bool
+    requires { ⌜ q ≡ prime job ⌝ }
+    ensures { λ r. ⌜ r ≡ hostsTest job ⌝ }
+{
+    either(outside(1, MOST_HOSTS, job.hosts), q <= job.hosts)
+}
+
+// More answers are needed than there are hosts.
+fn needed_test(job: Job, needed: u32) -> bool
+    requires { ⌜ needed ≡ neededOf job ⌝ }
+    ensures { λ r. ⌜ r ≡ neededTest job ⌝ }
+{
+    job.hosts < needed
+}
+
+// Tests 5 to 8: the numbers together. q is the job's prime, and needed its number of answers needed.
+fn fit_refusal(job: Job, q: u32, needed: u32) -> u32
+    requires { ⌜ first (rangeTests job) ≡ 0 ⌝ }
+    requires { ⌜ q ≡ prime job ⌝ }
+    requires { ⌜ needed ≡ neededOf job ⌝ }
+    ensures { λ r. ⌜ r ≡ first (fitTests job) ⌝ }
+{
+    if division_test(job) {
+        return refusal::DIVISION;
+    }
+    if block_test(job) {
         return refusal::BLOCK;
     }
-    if any(outside(1, MOST_HOSTS, job.hosts), q <= job.hosts, false) {
+    if hosts_test(job, q) {
         return refusal::HOSTS;
     }
-    if job.hosts < needed {
+    if needed_test(job, needed) {
         return refusal::NEEDED;
     }
     0
@@ -137,7 +195,7 @@ fn point_refusal(q: u32, hosts: u32, points: &[u32]) -> u32
     let mut i = 0;
     while i < points.len() {
         let x = points[i];
-        if any(x == 0, q <= x, false) {
+        if either(x == 0, q <= x) {
             return refusal::POINT;
         }
         if stands_before(points, i, x) {
@@ -163,7 +221,7 @@ fn parameters_of(job: Job) -> Parameters
 }
 
 // Plans a job: its layout and the number of answers needed, or the number of the first test that fits.
-pub fn plan(job: Job, points: &[u32]) -> Planned
+pub fn plan_job(job: Job, points: &[u32]) -> Planned
     ensures { λ r. ⌜ r ≡ planned job (now (points .entry)) ⌝ }
 {
     let Named::Is(modulus) = field::modulus_named(job.modulus) else {

@@ -1,19 +1,27 @@
 -- Laws of refusal chains.
 --
+--   first-none               no tests: done
 --   first-hit, first-miss    the first row's test holds, or does not
+--   first-clear              no test holds: not the first row's, and none after it
 --   numbered rows            no row has the number 0, as a test
+--   numbered-append          one such list after another
 --   first-append             one list of tests after another
 --   first-append-hit         the first list tells a number already
+--   answer-refused, answer-done  an answer by its number
 --   inside-low, inside-high  what a number in its range tells
 use mathlib.Core.Path.{_≡_, refl, sym, ap, _∙_, subst}
-use mathlib.Core.Bool.{Bool, true, false, not, cond, _&&_, _||_, true≢false}
+use mathlib.Core.Bool.{Bool, true, false, not, cond, _&&_}
 use mathlib.Core.List.{List, [], _∷_, _++_}
 use Prim.Native.Nat.{ℕ, zero, suc, _≤_, _<_}
-use native.Mathlib.Omega.{arith}
+use native.Mathlib.Nat.{suc-ne-zero}
 use lib.Dec.{T, eqb, ltb, T-not, eqb-refl}
 use borrow.Author.Tests.{ltb-false}
-use Rattle.algebra.proofs.Tests.{and-left, and-right}
+use Rattle.algebra.proofs.Tests.{and-left, and-right, both, or-left, or-right}
 use Rattle.refusal.specs.Chain.{Row, first, answer, outside}
+
+pub first-none : first [] ≡ 0
+unfolding first
+first-none = refl
 
 pub first-hit : (b : Bool) (n : ℕ) (rows : List Row) → b ≡ true → first ((b, n) ∷ rows) ≡ n
 unfolding first
@@ -23,9 +31,21 @@ pub first-miss : (b : Bool) (n : ℕ) (rows : List Row) → b ≡ false → firs
 unfolding first
 first-miss b n rows e = ap (λ (t : Bool). cond t n (first rows)) e
 
+pub first-clear : (b : Bool) (n : ℕ) (rows : List Row) → first ((b, suc n) ∷ rows) ≡ 0 → (b ≡ false) × (first rows ≡ 0)
+unfolding first
+first-clear true n rows e = absurd (suc-ne-zero n e)
+first-clear false n rows e = (refl, e)
+
 unfoldable pub numbered : List Row → Bool
 numbered [] = true
 numbered (row ∷ rows) = not (eqb (row .1) 0) && numbered rows
+
+pub numbered-append : (xs ys : List Row) → T (numbered xs) → T (numbered ys) → T (numbered (xs ++ ys))
+unfolding numbered
+numbered-append [] ys t u = u
+numbered-append (x ∷ xs) ys t u =
+    both (not (eqb (x .1) 0)) (numbered (xs ++ ys)) (and-left (not (eqb (x .1) 0)) (numbered xs) t)
+      (numbered-append xs ys (and-right (not (eqb (x .1) 0)) (numbered xs) t) u)
 
 -- none of the first rows' tests holds: the later rows decide
 pub first-append : (xs ys : List Row) → T (numbered xs) → first xs ≡ 0 → first (xs ++ ys) ≡ first ys
@@ -39,27 +59,29 @@ first-append (x ∷ xs) ys t z = go (x .0) (x .1) t z (first-append xs ys)
     go false n t z ih = ih (and-right (not (eqb n 0)) (numbered xs) t) z
 
 -- one of the first rows' tests holds: the later rows are not looked at
-pub first-append-hit : (xs ys : List Row) (n : ℕ) → first xs ≡ suc n → first (xs ++ ys) ≡ suc n
+pub first-append-hit : (xs ys : List Row) (n : ℕ) → (n ≡ 0 → ⊥) → first xs ≡ n → first (xs ++ ys) ≡ n
 unfolding first
-first-append-hit [] ys n e = let z : _≡_ {A = ℕ} 0 (suc n) = e in omega arith
-first-append-hit (x ∷ xs) ys n e = go (x .0) (x .1) e (first-append-hit xs ys n)
+first-append-hit [] ys n ne e = absurd (ne (sym e))
+first-append-hit (x ∷ xs) ys n ne e = go (x .0) (x .1) e (first-append-hit xs ys n ne)
   where
-    go : (b : Bool) (k : ℕ) → cond b k (first xs) ≡ suc n → (first xs ≡ suc n → first (xs ++ ys) ≡ suc n) → cond b k (first (xs ++ ys)) ≡ suc n
+    go : (b : Bool) (k : ℕ) → cond b k (first xs) ≡ n → (first xs ≡ n → first (xs ++ ys) ≡ n) → cond b k (first (xs ++ ys)) ≡ n
     go true k e ih = e
     go false k e ih = ih e
 
+module _ {A : Type 0} (value : A) (refused : ℕ → A) where
+  pub answer-done : (n : ℕ) → n ≡ 0 → answer n value refused ≡ value
+  unfolding answer
+  answer-done n e = ap (λ (k : ℕ). answer k value refused) e
+
+  pub answer-refused : (n : ℕ) → (n ≡ 0 → ⊥) → answer n value refused ≡ refused n
+  unfolding answer
+  answer-refused zero ne = absurd (ne refl)
+  answer-refused (suc n) ne = refl
+
 pub inside-low : (low high n : ℕ) → outside low high n ≡ false → low ≤ n
 unfolding outside
-inside-low low high n e = go (ltb n low) refl e
-  where
-    go : (b : Bool) → ltb n low ≡ b → (b || ltb high n) ≡ false → low ≤ n
-    go true t e = absurd (true≢false e)
-    go false t e = ltb-false n low t
+inside-low low high n e = ltb-false n low (or-left (ltb n low) (ltb high n) e)
 
 pub inside-high : (low high n : ℕ) → outside low high n ≡ false → n ≤ high
 unfolding outside
-inside-high low high n e = go (ltb n low) e
-  where
-    go : (b : Bool) → (b || ltb high n) ≡ false → n ≤ high
-    go true e = absurd (true≢false e)
-    go false e = ltb-false high n e
+inside-high low high n e = ltb-false high n (or-right (ltb n low) (ltb high n) e)

@@ -1,0 +1,76 @@
+-- Laws of the points' tests, point by point.
+--
+--   member-at, member-none      a number stands among the first n, or still does not
+--   pass-point                  the tests of the points up to i pass, and so do those of i
+--   stop-point                  they pass up to i, and one of i tells a number
+--   length-differs, length-same the test of the points' number
+use mathlib.Core.Path.{_≡_, refl, sym, ap, _∙_, subst}
+use mathlib.Core.Bool.{Bool, true, false, not, _||_, _&&_}
+use mathlib.Core.Logic.{⊎-elim}
+use mathlib.Core.List.{List, [], _∷_, _++_}
+use Prim.Native.Nat.{ℕ, zero, suc, _+_, _≤_, _<_}
+use native.Mathlib.Nat.{not-suc-le-zero, le-of-suc-le-suc, eq-or-lt-of-le, suc-ne-zero}
+use native.Mathlib.Numerals.{add-one}
+use native.Mathlib.Omega.{arith}
+use lib.Dec.{T, eqb}
+use lib.ListN.{length, getD, take}
+use borrow.Author.Tests.{eq-eqb, ne-eqb}
+use Rattle.refusal.specs.Chain.{Row, first}
+use Rattle.refusal.proofs.Chains.{first-hit, first-miss, numbered, numbered-append, first-append, first-append-hit}
+use Rattle.plan.specs.Planning.{member, pointRows, pointsRows, pointTests}
+
+or-true : (a b : Bool) → b ≡ true → (a || b) ≡ true
+or-true true b e = refl
+or-true false b e = e
+
+pub member-at : (xs : List ℕ) (n i x : ℕ) → i < n → i < length xs → getD xs i 0 ≡ x → member x (take n xs) ≡ true
+unfolding member
+member-at [] n i x hn hl e = absurd (not-suc-le-zero hl)
+member-at (y ∷ ys) zero i x hn hl e = absurd (not-suc-le-zero hn)
+member-at (y ∷ ys) (suc n) zero x hn hl e = ap (λ (b : Bool). b || member x (take n ys)) (eq-eqb x y (sym e))
+member-at (y ∷ ys) (suc n) (suc i) x hn hl e =
+    or-true (eqb x y) (member x (take n ys)) (member-at ys n i x (le-of-suc-le-suc hn) (le-of-suc-le-suc hl) e)
+
+pub member-none : (xs : List ℕ) (i x : ℕ) → i < length xs → member x (take i xs) ≡ false → (getD xs i 0 ≡ x → ⊥) → member x (take (suc i) xs) ≡ false
+unfolding member
+member-none [] i x h e ne = absurd (not-suc-le-zero h)
+member-none (y ∷ ys) zero x h e ne = ap (λ (b : Bool). b || false) (ne-eqb x y (λ s. ne (sym s)))
+member-none (y ∷ ys) (suc i) x h e ne = go (eqb x y) e (λ k. member-none ys i x (le-of-suc-le-suc h) k ne)
+  where
+    go : (b : Bool) → (b || member x (take i ys)) ≡ false → (member x (take i ys) ≡ false → member x (take (suc i) ys) ≡ false)
+        → (b || member x (take (suc i) ys)) ≡ false
+    go true e ih = e
+    go false e ih = ih e
+
+module _ (q : ℕ) (points : List ℕ) where
+  points-numbered : (n : ℕ) → T (numbered (pointsRows q points n))
+  unfolding pointsRows pointRows numbered
+  points-numbered zero = tt
+  points-numbered (suc n) = numbered-append (pointsRows q points n) (pointRows q points n) (points-numbered n) tt
+
+  next-point : (i : ℕ) → first (pointsRows q points i) ≡ 0 → first (pointsRows q points (suc i)) ≡ first (pointRows q points i)
+  unfolding pointsRows
+  next-point i e = first-append (pointsRows q points i) (pointRows q points i) (points-numbered i) e
+
+  pub pass-point : (i : ℕ) → first (pointsRows q points i) ≡ 0 → first (pointRows q points i) ≡ 0 → first (pointsRows q points (i + 1)) ≡ 0
+  pass-point i e f = ap (λ (k : ℕ). first (pointsRows q points k)) (add-one i) ∙ next-point i e ∙ f
+
+  -- a number that the points up to m tell is told by more points too
+  keep : (m n r : ℕ) → m ≤ n → first (pointsRows q points m) ≡ suc r → first (pointsRows q points n) ≡ suc r
+  unfolding pointsRows
+  keep m zero r h e = let z : m ≡ 0 = omega arith in subst (λ (k : ℕ). first (pointsRows q points k) ≡ suc r) z e
+  keep m (suc n) r h e =
+      ⊎-elim (λ (s : m ≡ suc n). subst (λ (k : ℕ). first (pointsRows q points k) ≡ suc r) s e)
+      (λ (l : m < suc n). first-append-hit (pointsRows q points n) (pointRows q points n) (suc r) (suc-ne-zero r) (keep m n r (le-of-suc-le-suc l) e))
+      (eq-or-lt-of-le h)
+
+  pub stop-point : (i n r : ℕ) → i < n → first (pointsRows q points i) ≡ 0 → first (pointRows q points i) ≡ suc r → first (pointsRows q points n) ≡ suc r
+  stop-point i n r h e f = keep (suc i) n r h (next-point i e ∙ f)
+
+  pub length-differs : (hosts : ℕ) → (length points ≡ hosts → ⊥) → first (pointTests q hosts points) ≡ 9
+  unfolding pointTests
+  length-differs hosts ne = first-hit _ 9 _ (ap not (ne-eqb (length points) hosts ne))
+
+  pub length-same : (hosts : ℕ) → length points ≡ hosts → first (pointTests q hosts points) ≡ first (pointsRows q points (length points))
+  unfolding pointTests
+  length-same hosts e = first-miss _ 9 _ (ap not (eq-eqb (length points) hosts e))

@@ -1,0 +1,51 @@
+-- What the tests 2 to 4 of a plan tell of its numbers.
+--
+--   Ranged job    each number is in its range
+--   ranged        it is where the tests 2 to 4 pass
+use mathlib.Core.Path.{_≡_}
+use mathlib.Core.Bool.{Bool, false, _||_}
+use mathlib.Core.List.{[], _∷_}
+use Prim.Native.Nat.{ℕ, _≤_}
+use Rattle.algebra.proofs.Tests.{or-left, or-right}
+use Rattle.refusal.specs.Chain.{first, outside}
+use Rattle.refusal.proofs.Chains.{first-clear, inside-low, inside-high}
+use Rattle.plan.specs.declared.Job.{Job}
+use Rattle.plan.specs.Planning.{sizeTest, cutTest, groupTest, rangeTests}
+
+-- n is in 1..high
+pub record Within (most n : ℕ) : Type 0 where
+  pub low : 1 ≤ n
+  pub high : n ≤ most
+
+within : (high n : ℕ) → outside 1 high n ≡ false → Within high n
+within high n e = record { low = inside-low 1 high n e; high = inside-high 1 high n e }
+
+pub record Ranged (job : Job) : Type 0 where
+  pub t : Within 16384 (job .t)
+  pub s : Within 16384 (job .s)
+  pub r : Within 16384 (job .r)
+  pub m : Within 8 (job .m)
+  pub p : Within 8 (job .p)
+  pub n : Within 8 (job .n)
+  pub xa : Within 16 (job .xa)
+  pub xb : Within 16 (job .xb)
+
+within-both : (most a b : ℕ) → (outside 1 most a || outside 1 most b) ≡ false → Within most a × Within most b
+within-both most a b e =
+    (within most a (or-left (outside 1 most a) (outside 1 most b) e), within most b (or-right (outside 1 most a) (outside 1 most b) e))
+
+within-all : (most a b c : ℕ) → (outside 1 most a || outside 1 most b || outside 1 most c) ≡ false → Within most a × Within most b × Within most c
+within-all most a b c e =
+    let two = within-both most a b (or-left (outside 1 most a || outside 1 most b) (outside 1 most c) e) in
+    (two .0, two .1, within most c (or-right (outside 1 most a || outside 1 most b) (outside 1 most c) e))
+
+pub ranged : (job : Job) → first (rangeTests job) ≡ 0 → Ranged job
+unfolding rangeTests sizeTest cutTest groupTest
+ranged job e =
+    let sizes = first-clear (sizeTest job) 1 _ e in
+    let cuts = first-clear (cutTest job) 2 _ (sizes .1) in
+    let groups = first-clear (groupTest job) 3 _ (cuts .1) in
+    let side = within-all 16384 (job .t) (job .s) (job .r) (sizes .0) in
+    let cut = within-all 8 (job .m) (job .p) (job .n) (cuts .0) in
+    let group = within-both 16 (job .xa) (job .xb) (groups .0) in
+    record { t = side .0; s = side .1; r = side .2; m = cut .0; p = cut .1; n = cut .2; xa = group .0; xb = group .1 }
