@@ -1,2 +1,3 @@
 -- Laws of layouts.
 pub mod Nests
+pub mod Soundness

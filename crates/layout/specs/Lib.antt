@@ -1,3 +1,4 @@
 -- Layouts: which exponents the blocks, the masks and the table have.
 pub mod Exponents
 pub mod Strides
+pub mod Sound
