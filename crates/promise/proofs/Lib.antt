@@ -1,0 +1,2 @@
+-- Proofs of the promises.
+pub mod Starred

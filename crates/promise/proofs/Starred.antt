@@ -1,0 +1,53 @@
+-- The starred lines hold: one test that is computed over the whole table.
+--
+--   same xs ys       two lists are equal, as a test
+--   right lines      every line's two lists are
+--   starred-right    the table is right
+use mathlib.Core.Path.{_≡_, refl, ap, ap₂}
+use mathlib.Core.Bool.{Bool, true, false, _&&_}
+use mathlib.Core.List.{List, [], _∷_}
+use Prim.Native.Nat.{ℕ, zero, suc, _<_}
+use native.Mathlib.Nat.{not-suc-le-zero, le-of-suc-le-suc}
+use lib.Dec.{T, eqb, eqb→eq}
+use lib.ListN.{length, getD}
+use Rattle.algebra.proofs.Tests.{and-left, and-right}
+use Rattle.algebra.specs.Lists.{tab}
+use Rattle.refusal.specs.Chain.{first, answer, outside}
+use Rattle.field.specs.Modulus.{moduli, modulus, noModulus, named}
+use Rattle.layout.specs.Exponents.{exponents, layout1, layout2, strideD, strideE, better, choice}
+use Rattle.plan.specs.Planning.{parameters, prime, modulusOf, blockRows, blockInner, blockColumns, layoutOf, neededOf, planOf}
+use Rattle.plan.specs.Planning.{sizeTest, cutTest, groupTest, divisionTest, blockTest, hostsTest, neededTest, rangeTests, fitTests}
+use Rattle.plan.specs.Planning.{member, pointRows, pointsRows, pointTests, planTests, planned}
+use Rattle.promise.specs.Starred.{Line, Right, starred, answered, plan, thresholds, smallest, jobWith}
+
+same : List ℕ → List ℕ → Bool
+same [] [] = true
+same [] (y ∷ ys) = false
+same (x ∷ xs) [] = false
+same (x ∷ xs) (y ∷ ys) = eqb x y && same xs ys
+
+same-eq : (xs ys : List ℕ) → T (same xs ys) → xs ≡ ys
+unfolding same
+same-eq [] [] t = refl
+same-eq [] (y ∷ ys) t = absurd t
+same-eq (x ∷ xs) [] t = absurd t
+same-eq (x ∷ xs) (y ∷ ys) t =
+    ap₂ _∷_ (eqb→eq x y (and-left (eqb x y) (same xs ys) t)) (same-eq xs ys (and-right (eqb x y) (same xs ys) t))
+
+right : List Line → Bool
+right [] = true
+right (l ∷ ls) = same (l .0) (l .1) && right ls
+
+all-right : (ls : List Line) → T (right ls) → Right ls
+unfolding right
+all-right [] t i h = absurd (not-suc-le-zero h)
+all-right (l ∷ ls) t zero h = same-eq (l .0) (l .1) (and-left (same (l .0) (l .1)) (right ls) t)
+all-right (l ∷ ls) t (suc i) h = all-right ls (and-right (same (l .0) (l .1)) (right ls) t) i (le-of-suc-le-suc h)
+
+-- the planning definitions, opened to compute
+computed : T (right starred)
+unfolding right same starred answered plan thresholds smallest jobWith tab first answer outside moduli modulus noModulus named exponents layout1 layout2 strideD strideE better choice parameters prime modulusOf blockRows blockInner blockColumns layoutOf neededOf planOf sizeTest cutTest groupTest divisionTest blockTest hostsTest neededTest rangeTests fitTests member pointRows pointsRows pointTests planTests planned
+computed = tt
+
+pub starred-right : Right starred
+starred-right = all-right starred computed

@@ -1,0 +1,2 @@
+-- Promises over the definitions that the contracts cite.
+pub mod Starred

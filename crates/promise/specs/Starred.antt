@@ -1,0 +1,62 @@
+-- The starred lines of 01, "Checked by hand": one table of the definitions' values, each beside the sheet's.
+--
+--   Line           == what the definitions give, and what the sheet says
+--   jobWith ..     == a job over q 257 of the smallest sizes that the cuts divide
+--   plan job       == a plan's refusal number, and of an accepted one the layout and K, with the points 1..N
+--   thresholds     == K by layout 1 and by layout 2
+--   starred        == the table
+--   Right lines    == in each line the two are the same
+use mathlib.Core.Path.{_≡_}
+use mathlib.Core.List.{List, [], _∷_}
+use Prim.Native.Nat.{ℕ, suc, _<_}
+use lib.ListN.{length, getD}
+use Rattle.algebra.specs.Lists.{tab}
+use Rattle.layout.specs.declared.Layout.the-variants.{First, Second}
+use Rattle.layout.specs.Exponents.{exponents, number}
+use Rattle.plan.specs.declared.Job.{Job}
+use Rattle.plan.specs.declared.Planned.{Planned}
+use Rattle.plan.specs.declared.Planned.the-variants.{Accepted, Refused}
+use Rattle.plan.specs.Planning.{parameters, planned}
+
+abbrev pub Line : Type 0
+Line = List ℕ × List ℕ
+
+unfoldable pub answered : Planned → List ℕ
+answered (Accepted plan) = 0 ∷ number (plan .layout) ∷ plan .needed ∷ []
+answered (Refused n) = n ∷ []
+
+unfoldable pub plan : Job → List ℕ
+plan job = answered (planned job (tab suc (job .hosts)))
+
+unfoldable pub thresholds : Job → List ℕ
+thresholds job = exponents First (parameters job) .needed ∷ exponents Second (parameters job) .needed ∷ []
+
+-- q 13, all sizes and both X 1
+unfoldable pub smallest : Job
+smallest = record { modulus = 1; t = 1; s = 1; r = 1; m = 1; p = 1; n = 1; xa = 1; xb = 1; hosts = 3; number = 0 }
+
+unfoldable pub jobWith : ℕ → ℕ → ℕ → ℕ → ℕ → ℕ → Job
+jobWith p m n xa xb hosts =
+    record { modulus = 2; t = m; s = p; r = n; m = m; p = p; n = n; xa = xa; xb = xb; hosts = hosts; number = 0 }
+
+unfoldable pub starred : List Line
+starred =
+    -- q 13, all sizes and both X 1, points 1, 2, 3: K = 3
+    (plan smallest, 0 ∷ 1 ∷ 3 ∷ [])
+    -- p, m, n, X_A = X_B: 2, 2, 3, 2 gives 23, layout 1
+    ∷ (plan (jobWith 2 2 3 2 2 23), 0 ∷ 1 ∷ 23 ∷ [])
+    -- 2, 2, 3, 5 gives 32
+    ∷ (plan (jobWith 2 2 3 5 5 32), 0 ∷ 1 ∷ 32 ∷ [])
+    -- 3, 4, 4, 2 gives 69, so refused with 8
+    ∷ (thresholds (jobWith 3 4 4 2 2 64), 69 ∷ 69 ∷ [])
+    ∷ (plan (jobWith 3 4 4 2 2 64), 8 ∷ [])
+    -- 2, 3, 2, 7 gives 43 and 38: layout 2
+    ∷ (thresholds (jobWith 2 3 2 7 7 64), 43 ∷ 38 ∷ [])
+    ∷ (plan (jobWith 2 3 2 7 7 64), 0 ∷ 2 ∷ 38 ∷ [])
+    -- p 1, m 2, n 2, X_A 3, X_B 1 gives 10 and 12: layout 1
+    ∷ (thresholds (jobWith 1 2 2 3 1 12), 10 ∷ 12 ∷ [])
+    ∷ (plan (jobWith 1 2 2 3 1 12), 0 ∷ 1 ∷ 10 ∷ [])
+    ∷ []
+
+abbrev pub Right : List Line → Type 0
+Right lines = (i : ℕ) → i < length lines → getD lines i ([], []) .0 ≡ getD lines i ([], []) .1
