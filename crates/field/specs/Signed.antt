@@ -1,31 +1,32 @@
 -- Elements as signed whole numbers (01, "Signed reading").
 --
---   half q             == (q - 1) / 2
---   signed q v         == the signed reading of element v: v where it is at most half q, else v - q
---   inRange q z        == z is in - half q .. half q
---   element q z        == the way back, for z in that range: z where it is not below 0, else q + z
---   signedTests n v    == the refusals of signed reading, in the sheet's order; n is a modulus number
---   elementTests n z   == the refusals of the way back
---   signedAnswer n v   == what signed reading answers
---   elementAnswer n z  == what the way back answers
---   signedNumber r     == the sheet's number of an answer of signed reading, and 0 for a value
---   elementNumber r    == the same for the way back
---   Reading            == how the elements of A and B are taken: as they are, or all by their signed reading
---   taken q how v      == element v, so taken
---   dot q how n a b    == the whole number Σ a i · b i over i below n, of elements a i and b i so taken: an exact entry of AB
---   Exact q            == an exact entry in range is the signed reading of the table's element, and one in 0..q-1 is the element
+--   half q              == (q - 1) / 2
+--   signed q v          == the signed reading of element v: v where it is at most half q, else v - q
+--   inRange q z         == z is in - half q .. half q
+--   element q z         == the way back, for z in that range: z where it is not below 0, else q + z
+--   signedTests n v     == the refusals of signed reading at modulus number n, in the sheet's order
+--   elementTests n z    == those of the way back
+--   signedAnswer n v    == what signed reading answers
+--   elementAnswer n z   == what the way back answers
+--   signedNumber r      == the sheet's number for an answer of signed reading, and 0 for a value
+--   elementNumber r     == the same of the way back
+--   Taking              == how the elements of A and B are taken: as they are, or all by their signed reading
+--   taken q how v       == element v, so taken
+--   dot ρ n a b         == the exact sum of ρ (a i) · ρ (b i) over i below n: an entry of AB, its elements taken by ρ
+--   Exact q             == an exact entry in range is the signed reading of the table's element;
+--                          one in 0 .. q - 1 is the element itself. Both hold for any numbers in A and B
 use mathlib.Core.Path.{_≡_}
-use mathlib.Core.Bool.{Bool, not, cond, _&&_}
+use mathlib.Core.Bool.{Bool, true, not, cond, _&&_}
 use mathlib.Core.List.{List, [], _∷_}
 use Prim.Native.Nat.{ℕ, zero, suc, _-_, _*_, _/_, _%_, _<_}
-use lib.Dec.{T, leb, ltb}
+use lib.Dec.{leb, ltb}
 use lib.IntN.{ℤ, pos, negsuc, negℤ, _+ℤ_, _-ℤ_, _*ℤ_}
 use lib.Signed.{leZ}
 use Rattle.algebra.specs.Sums.{sum}
 use Rattle.refusal.specs.Chain.{Row, first, answer}
-use Rattle.field.specs.Modulus.{modulus, noModulus}
 use Rattle.field.specs.declared.signed.Signed.{Signed}
 use Rattle.field.specs.declared.signed.Element.{Element}
+use Rattle.field.specs.Modulus.{modulus, noModulus}
 
 unfoldable pub half : ℕ → ℕ
 half q = (q - 1) / 2
@@ -36,6 +37,7 @@ signed q v = cond (leb v (half q)) (pos v) (pos v -ℤ pos q)
 unfoldable pub inRange : ℕ → ℤ → Bool
 inRange q z = leZ (negℤ (pos (half q))) z && leZ z (pos (half q))
 
+-- negsuc n is - (n + 1)
 unfoldable pub element : ℕ → ℤ → ℕ
 element q (pos n) = n
 element q (negsuc n) = q - suc n
@@ -60,19 +62,19 @@ unfoldable pub elementNumber : Element → ℕ
 elementNumber (Element.Value v) = 0
 elementNumber (Element.Refused n) = n
 
-pub data Reading : Type 0 where
-  plain signedly : Reading
+pub data Taking : Type 0 where
+  as-they-are by-reading : Taking
 
-unfoldable pub taken : ℕ → Reading → ℕ → ℤ
-taken q plain v = pos v
-taken q signedly v = signed q v
+unfoldable pub taken : ℕ → Taking → ℕ → ℤ
+taken q as-they-are v = pos v
+taken q by-reading v = signed q v
 
 unfoldable pub dot : (ℕ → ℤ) → ℕ → (ℕ → ℕ) → (ℕ → ℕ) → ℤ
 dot ρ zero a b = pos 0
 dot ρ (suc n) a b = dot ρ n a b +ℤ ρ (a n) *ℤ ρ (b n)
 
 pub record Exact (q : ℕ) : Type 0 where
-  pub signed-is : (how : Reading) (n : ℕ) (a b : ℕ → ℕ) → T (inRange q (dot (taken q how) n a b))
+  pub reads : (how : Taking) (n : ℕ) (a b : ℕ → ℕ) → inRange q (dot (taken q how) n a b) ≡ true
       → signed q (sum n (λ i. a i * b i) % q) ≡ dot (taken q how) n a b
-  pub element-is : (how : Reading) (n : ℕ) (a b : ℕ → ℕ) (k : ℕ) → k < q → dot (taken q how) n a b ≡ pos k
+  pub stands : (how : Taking) (n : ℕ) (a b : ℕ → ℕ) (k : ℕ) → k < q → dot (taken q how) n a b ≡ pos k
       → sum n (λ i. a i * b i) % q ≡ k

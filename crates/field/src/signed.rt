@@ -1,7 +1,7 @@
 // Elements as signed whole numbers (01, "Signed reading").
+use crate::Named;
 ghost use mathlib.Core.Path.{_≡_};
 ghost use Rattle.field.specs.Signed.{signedAnswer, elementAnswer};
-use crate::Named;
 
 // What signed reading answers.
 pub enum Signed {
@@ -15,7 +15,7 @@ pub enum Element {
     Refused(u32),
 }
 
-// The signed reading of element v.
+// The signed reading of element v: v up to half of q, and v - q above.
 pub fn signed_reading(number: u32, v: u32) -> Signed
     ensures { λ r. ⌜ r ≡ signedAnswer number v ⌝ }
 {
@@ -26,13 +26,14 @@ pub fn signed_reading(number: u32, v: u32) -> Signed
     if q <= v {
         return Signed::Refused(refusal::ELEMENT);
     }
-    if v <= (q - 1) / 2 {
+    let top = q - 1;
+    if v <= top / 2 {
         return Signed::Value(v as i64);
     }
     Signed::Value(v as i64 - q as i64)
 }
 
-// The element whose signed reading is a value.
+// The way back: the element whose signed reading is the value.
 pub fn element_of(number: u32, value: i64) -> Element
     ensures { λ r. ⌜ r ≡ elementAnswer number value ⌝ }
 {
@@ -40,7 +41,8 @@ pub fn element_of(number: u32, value: i64) -> Element
         return Element::Refused(refusal::MODULUS);
     };
     let q = crate::prime_of(modulus);
-    let half = ((q - 1) / 2) as i64;
+    let top = q - 1;
+    let half = (top / 2) as i64;
     if value < -half || half < value {
         return Element::Refused(refusal::SIGNED);
     }

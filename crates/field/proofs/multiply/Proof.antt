@@ -1,9 +1,8 @@
-use Prim.Native.Nat.{_*_}
-use native.Mathlib.Nat.{mod-lt}
+use Prim.Native.Nat.{_^_, _<_}
 use native.Mathlib.Omega.{arith}
 use borrow.Author.Needs.{needs}
-use Rattle.algebra.proofs.Orders.{mul-lt}
 use Rattle.field.proofs.Moduli.{prime-prime, prime-small}
+use Rattle.field.proofs.Words.{fitting}
 use Rattle.field.proofs.multiply.Statement.{statement}
 use Rattle.field.proofs.multiply.Tie as tie
 use Rattle.field.proofs.multiply.Reads as reads
@@ -20,15 +19,18 @@ cast-q c = search needs
 
 -- src/lib.rt:48:6
 mul-result : tie.Need-mul-result
-mul-result c = omega (arith, mul-lt (c .before .fits .a .fits) (c .before .fits .b .fits))
+mul-result c = search fitting
 
 -- src/lib.rt:48:6
 rem-result : tie.Need-rem-result
 rem-result c = omega (arith, prime-prime (c .before .args .modulus) .above-one)
 
+small-q : (c : tie.After-prime-of) → c .prime-of .result < 2 ^ 31
+small-q c = omega (arith, prime-small (c .before .args .modulus))
+
 -- src/lib.rt:48:5
 cast-result : tie.Need-cast-result
-cast-result c = let a = c .before .args in omega (arith, prime-small (a .modulus), mod-lt (a .a * a .b) {m = c .prime-of .result} (rem-result c))
+cast-result c = search (fitting, rem-result c, small-q c)
 
 -- src/lib.rt:44:1
 returns : tie.Need-returns

@@ -1,62 +1,81 @@
+-- `field::signed_reading` meets its contract: the number, the element, and then the two halves.
+use mathlib.Core.Path.{sym, ap, _∙_}
+use Prim.Native.Nat.{ℕ, _<_}
+use native.Mathlib.Omega.{arith}
+use mir.Facts.{toZ-ofZ}
 use borrow.Author.Needs.{needs}
+use Rattle.field.specs.declared.signed.Signed.{Signed}
+use Rattle.field.specs.Signed.{half}
+use Rattle.field.proofs.Moduli.{Known, known, none-named}
+use Rattle.field.proofs.Readings.{signed-low, signed-high}
+use Rattle.field.proofs.Answers.{signed-unknown, signed-above, signed-value}
+use Rattle.field.proofs.Words.{word, difference, fitting}
 use Rattle.field.proofs.signed.signed_reading.Statement.{statement}
 use Rattle.field.proofs.signed.signed_reading.Tie as tie
-use Rattle.field.proofs.signed.signed_reading.Reads as reads
-use Rattle.field.proofs.signed.signed_reading.Lts as lts
-use Rattle.field.proofs.modulus_named.Reads as modulus-named-reads
-use Rattle.field.proofs.prime_of.Reads as prime-of-reads
 
--- src/signed.rt:22:30
 modulus-named-requires : tie.Need-modulus-named-requires
 modulus-named-requires c κs = search needs
 
--- src/signed.rt:22:19
 enum-known-modulus : tie.Need-enum-known-modulus
 enum-known-modulus c = search needs
 
--- src/signed.rt:23:9
 enum-told : tie.Need-enum-told
 enum-told c = search needs
 
--- src/signed.rt:23:9
 returns : tie.Need-returns
-returns c = ?
+returns c =
+    let n = c .before .before in
+    let a = n .before .args in
+    sym (signed-unknown (a .number) (a .v) (none-named (a .number) (sym (n .modulus-named .ensures) ∙ c .enum-told .given .1)))
 
--- src/signed.rt:25:9
 prime-of-requires : tie.Need-prime-of-requires
 prime-of-requires c κs = search needs
 
--- src/signed.rt:27:9
+abbrev start : tie.After-prime-of → tie.Start
+start c = c .before .before .before .before .before
+
+abbrev v : tie.After-prime-of → ℕ
+v c = start c .args .v
+
+abbrev q : tie.After-prime-of → ℕ
+q c = c .prime-of .result
+
+known-q : (c : tie.After-prime-of) → Known (start c .args .number) (q c)
+known-q c = known _ (sym (c .before .before .before .before .modulus-named .ensures) ∙ c .before .before .modulus .given .1) (c .prime-of .ensures)
+
 returns-2 : tie.Need-returns-2
-returns-2 c = ?
+returns-2 c = sym (signed-above (known-q (c .before)) (v (c .before)) (omega arith))
 
--- src/signed.rt:29:14
-sub-if2 : tie.Need-sub-if2
-sub-if2 c = search needs
+sub-top : tie.Need-sub-top
+sub-top c = omega (arith, known-q (c .before) .is-prime .above-one)
 
--- src/signed.rt:30:30
 cast-t9 : tie.Need-cast-t9
 cast-t9 c = search needs
 
--- src/signed.rt:30:9
 returns-3 : tie.Need-returns-3
-returns-3 c = ?
+unfolding half
+returns-3 c =
+    let d = c .before .before in
+    let k = known-q d in
+    let l : v d < q d = omega arith in
+    ap Signed.Value (word (start d .fits .v) ∙ sym (signed-low (q d) (v d) (omega arith))) ∙ sym (signed-value k (v d) l)
 
--- src/signed.rt:32:19
 cast-t10 : tie.Need-cast-t10
 cast-t10 c = search needs
 
--- src/signed.rt:32:30
 cast-t11 : tie.Need-cast-t11
 cast-t11 c = search needs
 
--- src/signed.rt:32:19
 sub-t12 : tie.Need-sub-t12
-sub-t12 c = ?
+sub-t12 c = search fitting
 
--- src/signed.rt:19:1
 returns-4 : tie.Need-returns-4
-returns-4 c = ?
+unfolding half
+returns-4 c =
+    let d = c .before .before in
+    let k = known-q d in
+    let l = c .before .if1 .left in
+    ap Signed.Value (toZ-ofZ (sub-t12 c) ∙ difference (start d .fits .v) (record { fits = d .prime-of .ok }) l ∙ sym (signed-high (q d) (v d) (c .if2 .left) l)) ∙ sym (signed-value k (v d) l)
 
 pub signed-reading-spec : {M : Type 1} → statement M
 signed-reading-spec =
@@ -68,7 +87,7 @@ signed-reading-spec =
     returns
     prime-of-requires
     returns-2
-    sub-if2
+    sub-top
     cast-t9
     returns-3
     cast-t10
