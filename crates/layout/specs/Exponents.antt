@@ -7,12 +7,15 @@
 --   number           == its number on the sheet
 --   better g a b     == of two layouts the one with the smaller K, at a tie the first
 --   choice g         == the layout that is used
+--   term e series i j == the exponent or place of a series at row i and column j
 use mathlib.Core.Bool.{cond}
 use Prim.Native.Nat.{ℕ, _+_, _-_, _*_}
 use lib.Dec.{leb}
 use Rattle.layout.specs.declared.Parameters.{Parameters}
 use Rattle.layout.specs.declared.Layout.{Layout}
 use Rattle.layout.specs.declared.Layout.the-variants.{First, Second}
+use Rattle.layout.specs.declared.Series.{Series}
+use Rattle.layout.specs.declared.Series.the-variants.{BlocksA, MasksA, BlocksB, MasksB, Places}
 
 -- K, the number of answers needed, is `needed`: the recovery threshold.
 pub record Exponents : Type 0 where
@@ -64,3 +67,11 @@ better g a b = cond (leb (exponents a g .needed) (exponents b g .needed)) a b
 
 unfoldable pub choice : Parameters → Layout
 choice g = better g First Second
+
+-- a mask has a column alone
+unfoldable pub term : Exponents → Series → ℕ → ℕ → ℕ
+term e BlocksA i j = e .blockA i j
+term e MasksA i j = e .maskA j
+term e BlocksB i j = e .blockB i j
+term e MasksB i j = e .maskB j
+term e Places i j = e .place i j

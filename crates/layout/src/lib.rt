@@ -2,7 +2,7 @@
 // The numbers of cuts and the group sizes are u8, so that every exponent fits a u32 and nothing has to be refused here.
 ghost use mathlib.Core.Path.{_≡_};
 ghost use Prim.Native.Nat.{_+_, _-_, _*_, _^_, _<_};
-ghost use Rattle.layout.specs.Exponents.{exponents, number, better, choice};
+ghost use Rattle.layout.specs.Exponents.{exponents, number, choice, term};
 ghost use Rattle.layout.specs.Strides.{Follows, Nested};
 
 // How the matrices are cut, m by p and p by n blocks, and the largest groups kept ignorant of A and of B.
@@ -18,6 +18,15 @@ pub struct Parameters {
 pub enum Layout {
     First,
     Second,
+}
+
+// The exponents that a layout gives: of blocks by row and column, of masks by number, and the places of the table's blocks.
+pub enum Series {
+    BlocksA,
+    MasksA,
+    BlocksB,
+    MasksB,
+    Places,
 }
 
 // What a layout's exponents are made of: the strides of A's rows and B's columns of blocks, the first masks' exponents,
@@ -125,42 +134,16 @@ pub fn choose(g: Parameters) -> Layout
     }
 }
 
-// The exponent of block A(k,l), with k and l from 0.
-pub fn block_a(layout: Layout, g: Parameters, k: u8, l: u8) -> u32
-    ensures { λ r. ⌜ r ≡ exponents layout g .blockA k l ⌝ }
+// The exponent or place of a series at row i and column j, both from 0; a mask has a column alone.
+pub fn exponent_of(series: Series, layout: Layout, g: Parameters, i: u8, j: u8) -> u32
+    ensures { λ r. ⌜ r ≡ term (exponents layout g) series i j ⌝ }
 {
     let s = strides_of(layout, g);
-    combine(k, s.stride_a, l as u32)
-}
-
-// The exponent of A's mask x, with x from 0.
-pub fn mask_a(layout: Layout, g: Parameters, x: u8) -> u32
-    ensures { λ r. ⌜ r ≡ exponents layout g .maskA x ⌝ }
-{
-    let s = strides_of(layout, g);
-    s.mask_a + x as u32
-}
-
-// The exponent of block B(l,j), with l and j from 0.
-pub fn block_b(layout: Layout, g: Parameters, l: u8, j: u8) -> u32
-    ensures { λ r. ⌜ r ≡ exponents layout g .blockB l j ⌝ }
-{
-    let s = strides_of(layout, g);
-    combine(j, s.stride_b, minus(minus(g.p as u32, 1), l as u32))
-}
-
-// The exponent of B's mask x, with x from 0.
-pub fn mask_b(layout: Layout, g: Parameters, x: u8) -> u32
-    ensures { λ r. ⌜ r ≡ exponents layout g .maskB x ⌝ }
-{
-    let s = strides_of(layout, g);
-    s.mask_b + x as u32
-}
-
-// The place of block C(k,j) among the coefficients of the answers, with k and j from 0.
-pub fn place(layout: Layout, g: Parameters, k: u8, j: u8) -> u32
-    ensures { λ r. ⌜ r ≡ exponents layout g .place k j ⌝ }
-{
-    let s = strides_of(layout, g);
-    combine(k, s.stride_a, combine(j, s.stride_b, minus(g.p as u32, 1)))
+    match series {
+        Series::BlocksA => combine(i, s.stride_a, j as u32),
+        Series::MasksA => s.mask_a + j as u32,
+        Series::BlocksB => combine(j, s.stride_b, minus(minus(g.p as u32, 1), i as u32)),
+        Series::MasksB => s.mask_b + j as u32,
+        Series::Places => combine(i, s.stride_a, combine(j, s.stride_b, minus(g.p as u32, 1))),
+    }
 }
