@@ -66,7 +66,7 @@ module _ {q : ℕ} (prime : Prime q) where
       let k : ℕ = inverse q (x + (q - z)) * ev rest z in
       let whole : z + (q - z) ≡ q = omega arith in
       ≈-trans (≈-of-eq (factor-ev q x z rest z))
-        (≈-by (≈-multiple {q = q} k) (omega (arith, ap (λ (w : ℕ). inverse q (x + (q - z)) * (w * ev rest z)) whole)))
+      (≈-by (≈-multiple {q = q} k) (omega (arith, ap (λ (w : ℕ). inverse q (x + (q - z)) * (w * ev rest z)) whole)))
 
   pub basis-other : (x : ℕ) (ys : List ℕ) (k : ℕ) → AllBelow q ys → k < length ys → (x ≡ getD ys k 0 → ⊥) → ⟨ q ⟩ ev (basis q x ys) (getD ys k 0) ≈ 0
   unfolding basis factor
@@ -135,26 +135,26 @@ module _ {q : ℕ} (prime : Prime q) (xs ys : List ℕ) (below : AllBelow q xs) 
   unfolding through term
   through-length =
       total-length term (length xs) (length xs)
-        (λ i h. omega (arith, length-scale (getD ys i 0) (basis q (getD xs i 0) xs), length-basis-own q (getD xs i 0) xs i h refl))
+      (λ i h. omega (arith, length-scale (getD ys i 0) (basis q (getD xs i 0) xs), length-basis-own q (getD xs i 0) xs i h refl))
 
   term-own : (k : ℕ) → k < length xs → ⟨ q ⟩ ev (term k) (getD xs k 0) ≈ getD ys k 0
   unfolding term
   term-own k h =
       ≈-trans (≈-of-eq (ev-scale (getD ys k 0) (basis q (getD xs k 0) xs) (getD xs k 0)))
-        (≈-by (≈-scale (getD ys k 0) (basis-own prime (getD xs k 0) xs (below k h) below)) (omega arith))
+      (≈-by (≈-scale (getD ys k 0) (basis-own prime (getD xs k 0) xs (below k h) below)) (omega arith))
 
   term-other : (i k : ℕ) → i < length xs → k < length xs → (i ≡ k → ⊥) → ⟨ q ⟩ ev (term i) (getD xs k 0) ≈ 0
   unfolding term
   term-other i k hi hk ne =
       ≈-trans (≈-of-eq (ev-scale (getD ys i 0) (basis q (getD xs i 0) xs) (getD xs k 0)))
-        (≈-by (≈-scale (getD ys i 0) (basis-other prime (getD xs i 0) xs k below hk (λ e. ne (distinct i k hi hk e)))) (omega arith))
+      (≈-by (≈-scale (getD ys i 0) (basis-other prime (getD xs i 0) xs k below hk (λ e. ne (distinct i k hi hk e)))) (omega arith))
 
   through-at : (k : ℕ) → k < length xs → ⟨ q ⟩ ev through (getD xs k 0) ≈ getD ys k 0
   unfolding through
   through-at k h =
       let x : ℕ = getD xs k 0 in
       ≈-trans (≈-of-eq (total-ev term (length xs) x))
-        (≈-trans (sum-single (length xs) k (λ i. ev (term i) x) h (λ i hi ne. term-other i k hi h ne)) (term-own k h))
+      (≈-trans (sum-single (length xs) k (λ i. ev (term i) x) h (λ i hi ne. term-other i k hi h ne)) (term-own k h))
 
   apart : Apart q xs
   apart i j hi hj e = distinct i j hi hj (≈-exact (below i hi) (below j hj) e)
@@ -163,9 +163,9 @@ module _ {q : ℕ} (prime : Prime q) (xs ys : List ℕ) (below : AllBelow q xs) 
   unfolding coefficient through term
   through-coefficient e =
       ap (λ (k : ℕ). k % q)
-        (sym (total-getD term (length xs) e
-        ∙ sum-cong (length xs) (λ i. getD (term i) e 0) (λ i. getD ys i 0 * getD (basis q (getD xs i 0) xs) e 0)
-            (λ i h. getD-scale (getD ys i 0) (basis q (getD xs i 0) xs) e)))
+      (sym (total-getD term (length xs) e
+      ∙ sum-cong (length xs) (λ i. getD (term i) e 0) (λ i. getD ys i 0 * getD (basis q (getD xs i 0) xs) e 0)
+      (λ i h. getD-scale (getD ys i 0) (basis q (getD xs i 0) xs) e)))
 
   pub recover : (cs : List ℕ) → length cs ≤ length xs → ((k : ℕ) → k < length xs → ⟨ q ⟩ getD ys k 0 ≈ ev cs (getD xs k 0))
       → (e : ℕ) → coefficient q xs ys e ≡ getD cs e 0 % q

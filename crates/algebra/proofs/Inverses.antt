@@ -62,7 +62,7 @@ module _ {q : ℕ} (prime : Prime q) where
       let w : ℕ = q - 1 in
       let q-is : w + 1 ≡ q = omega (arith, prime .above-one) in
       ≈-by {c = q * (w * s) + r * s} {d = q * (r * s) + 1} (≈-add (≈-trans (≈-multiple (w * s)) (≈-sym (≈-multiple (r * s)))) h)
-        (omega (arith, ap (λ (x : ℕ). x * (w * s)) e, ap (λ (x : ℕ). x * (r * s)) q-is))
+      (omega (arith, ap (λ (x : ℕ). x * (w * s)) e, ap (λ (x : ℕ). x * (r * s)) q-is))
 
   remainder-pos : (a : ℕ) → 1 < a → a < q → 0 < q % a
   remainder-pos a low high = ⊎-elim (λ (z : q % a ≤ 0). absurd (prime .no-divisor a low high (omega arith))) (λ (l : 0 < q % a). l) (le-or-lt (q % a) 0)
@@ -118,8 +118,8 @@ module _ {q : ℕ} (prime : Prime q) where
       let w : ℕ = q - 1 in
       let q-is : w + 1 ≡ q = omega (arith, prime .above-one) in
       no-zero-divisor (x + w * r) a
-        (λ (h : ⟨ q ⟩ x + w * r ≈ 0). ne (≈-by (≈-trans h (≈-sym (≈-multiple r))) (omega (arith, ap (λ (k : ℕ). k * r) q-is))))
-        (≈-by (≈-add e (≈-multiple (r * a))) (omega (arith, ap (λ (k : ℕ). k * (r * a)) q-is)))
+      (λ (h : ⟨ q ⟩ x + w * r ≈ 0). ne (≈-by (≈-trans h (≈-sym (≈-multiple r))) (omega (arith, ap (λ (k : ℕ). k * r) q-is))))
+      (≈-by (≈-add e (≈-multiple (r * a))) (omega (arith, ap (λ (k : ℕ). k * (r * a)) q-is)))
 
   zero-no-inverse : (a b : ℕ) → ⟨ q ⟩ a ≈ 0 → ⟨ q ⟩ a * b ≈ 1 → ⊥
   zero-no-inverse a b z h =

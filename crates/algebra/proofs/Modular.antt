@@ -39,12 +39,12 @@ module _ {q : ℕ} where
   pub ≈-add : {a b c d : ℕ} → ⟨ q ⟩ a ≈ b → ⟨ q ⟩ c ≈ d → ⟨ q ⟩ a + c ≈ b + d
   ≈-add {a} {b} {c} {d} e f =
       ≈-shift (a + c) (b + d) (b / q + d / q) (a / q + c / q)
-        (omega (arith, e .same, f .same, div-add-mod a q, div-add-mod b q, div-add-mod c q, div-add-mod d q))
+      (omega (arith, e .same, f .same, div-add-mod a q, div-add-mod b q, div-add-mod c q, div-add-mod d q))
 
   pub ≈-scale : (k : ℕ) {a b : ℕ} → ⟨ q ⟩ a ≈ b → ⟨ q ⟩ k * a ≈ k * b
   ≈-scale k {a} {b} e =
       ≈-shift (k * a) (k * b) (k * (b / q)) (k * (a / q))
-        (omega (arith, ap (λ (x : ℕ). k * x) (div-add-mod a q), ap (λ (x : ℕ). k * x) (div-add-mod b q), ap (λ (x : ℕ). k * x) (e .same)))
+      (omega (arith, ap (λ (x : ℕ). k * x) (div-add-mod a q), ap (λ (x : ℕ). k * x) (div-add-mod b q), ap (λ (x : ℕ). k * x) (e .same)))
 
   pub ≈-mul : {a b c d : ℕ} → ⟨ q ⟩ a ≈ b → ⟨ q ⟩ c ≈ d → ⟨ q ⟩ a * c ≈ b * d
   ≈-mul {a} {b} {c} {d} e f =

@@ -124,7 +124,7 @@ module _ {q : ℕ} (prime : Prime q) where
   unfolding ev
   other-root r x c cs ne at-r at-x =
       cancel-difference prime x r (ev (quotient r cs) x) ne
-        (≈-by (≈-trans at-x (≈-sym at-r)) (omega (arith, quotient-ev r x cs)))
+      (≈-by (≈-trans at-x (≈-sym at-r)) (omega (arith, quotient-ev r x cs)))
 
   pub roots : (rs cs : List ℕ) → length cs ≤ length rs → Apart q rs → ((i : ℕ) → i < length rs → ⟨ q ⟩ ev cs (getD rs i 0) ≈ 0) → Zeros q cs
   roots [] [] h apart at = λ e. ≈-refl 0
@@ -181,4 +181,4 @@ module _ {q : ℕ} (prime : Prime q) where
       minus : ⟨ q ⟩ getD diff e 0 ≈ 0 → ⟨ q ⟩ getD cs e 0 ≈ getD ds e 0
       minus h =
           back (getD cs e 0) (getD ds e 0)
-            (≈-trans (≈-of-eq (sym (getD-add cs (scale w ds) e ∙ ap (λ (k : ℕ). getD cs e 0 + k) (getD-scale w ds e)))) h)
+          (≈-trans (≈-of-eq (sym (getD-add cs (scale w ds) e ∙ ap (λ (k : ℕ). getD cs e 0 + k) (getD-scale w ds e)))) h)

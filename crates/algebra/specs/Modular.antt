@@ -10,7 +10,6 @@ use Prim.Native.Nat.{ℕ, zero, suc, _*_, _%_, _<_}
 use lib.Dec.{eqb}
 
 infix 4 ⟨_⟩_≈_
-
 pub record ⟨_⟩_≈_ (q a b : ℕ) : Type 0 where
   pub same : a % q ≡ b % q
 

@@ -53,10 +53,10 @@ module _ {q a last next last-factor next-factor : ℕ} (one : 1 < q) (pos : 0 < 
       let small : s < q = mod-lt (quotient * next-factor) (omega arith) in
       let back : s + (q - s) ≡ q = omega arith in
       let taken : ⟨ q ⟩ a * s ≈ quotient * next =
-            ≈-trans (≈-scale a (≈-mod (quotient * next-factor))) (≈-by (≈-scale quotient (e .next-leaves)) (omega arith)) in
+      ≈-trans (≈-scale a (≈-mod (quotient * next-factor))) (≈-by (≈-scale quotient (e .next-leaves)) (omega arith)) in
       ≈-trans (≈-scale a (≈-mod (last-factor + (q - s))))
-        (≈-by (≈-add (≈-add (e .last-leaves) (≈-multiple a)) (≈-sym taken))
-          (omega (arith, ap (λ (k : ℕ). a * k) back, whole)))
+      (≈-by (≈-add (≈-add (e .last-leaves) (≈-multiple a)) (≈-sym taken))
+      (omega (arith, ap (λ (k : ℕ). a * k) back, whole)))
 
   pub euclid-step : Euclid q a next (last % next) next-factor (new-factor q (last / next) last-factor next-factor)
   unfolding quotient new-factor

@@ -10,7 +10,7 @@
 use mathlib.Core.Path.{_≡_, sym, ap, ap₂, _∙_}
 use mathlib.Core.Bool.{true, false}
 use mathlib.Core.List.{List, [], _∷_, _++_}
-use Prim.Native.Nat.{ℕ}
+use Prim.Native.Nat.{ℕ, _/_}
 use Rattle.refusal.specs.Chain.{first, answer}
 use Rattle.refusal.proofs.Chains.{first-hit, first-miss, first-append, first-append-hit, answer-done, answer-refused, numbered}
 use Rattle.field.specs.declared.Modulus.{Modulus}
@@ -22,7 +22,7 @@ use Rattle.layout.specs.Exponents.{exponents, choice}
 use Rattle.plan.specs.declared.Job.{Job}
 use Rattle.plan.specs.declared.Planned.{Planned}
 use Rattle.plan.specs.declared.Planned.the-variants.{Accepted, Refused}
-use Rattle.plan.specs.Planning.{parameters, prime, known, modulusOf, layoutOf, neededOf, planOf, rangeTests, fitTests, pointTests, planTests, planned}
+use Rattle.plan.specs.Planning.{parameters, prime, known, modulusOf, blockRows, blockInner, blockColumns, layoutOf, neededOf, planOf, rangeTests, fitTests, pointTests, planTests, planned}
 
 module _ (job : Job) (points : List ℕ) where
   pub plan-modulus : noModulus (job .modulus) ≡ true → first (planTests job points) ≡ 1
@@ -62,9 +62,11 @@ module _ (job : Job) (g : Parameters) (same : g ≡ parameters job) (layout : La
   unfolding neededOf
   needed-is = ap₂ (λ (l : Layout) (h : Parameters). exponents l h .needed) layout-is same
 
-pub accepted : (job : Job) (points : List ℕ) (m : Modulus) (layout : Layout) (needed : ℕ) → named (job .modulus) ≡ Is m → layout ≡ layoutOf job → needed ≡ neededOf job
-    → first (planTests job points) ≡ 0 → Accepted (record { modulus = m; layout = layout; needed = needed }) ≡ planned job points
-unfolding planned planOf modulusOf
-accepted job points m layout needed is l k e =
-    ap Accepted (λ i. record { modulus = ap known (sym is) i; layout = l i; needed = k i })
+pub accepted : (job : Job) (points : List ℕ) (m : Modulus) (layout : Layout) (g : Parameters) (needed : ℕ)
+    → named (job .modulus) ≡ Is m → layout ≡ layoutOf job → g ≡ parameters job → needed ≡ neededOf job → first (planTests job points) ≡ 0
+    → Accepted (record { modulus = m; layout = layout; parameters = g; rows = job .t / job .m; inner = job .s / job .p; columns = job .r / job .n; needed = needed })
+    ≡ planned job points
+unfolding planned planOf modulusOf blockRows blockInner blockColumns
+accepted job points m layout g needed is l same k e =
+    ap Accepted (λ i. record { modulus = ap known (sym is) i; layout = l i; parameters = same i; rows = blockRows job; inner = blockInner job; columns = blockColumns job; needed = k i })
     ∙ sym (answer-done (Accepted (planOf job)) Refused (first (planTests job points)) e)

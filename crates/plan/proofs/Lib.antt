@@ -2,3 +2,4 @@
 pub mod Ranges
 pub mod Points
 pub mod Answers
+pub mod Facts

@@ -1,6 +1,7 @@
 -- Laws of the points' tests, point by point.
 --
 --   member-at, member-none      a number stands among the first n, or still does not
+--   points-numbered             every row has a number
 --   pass-point                  the tests of the points up to i pass, and so do those of i
 --   stop-point                  they pass up to i, and one of i tells a number
 --   length-differs, length-same the test of the points' number
@@ -43,7 +44,7 @@ member-none (y ∷ ys) (suc i) x h e ne = go (eqb x y) e (λ k. member-none ys i
     go false e ih = ih e
 
 module _ (q : ℕ) (points : List ℕ) where
-  points-numbered : (n : ℕ) → T (numbered (pointsRows q points n))
+  pub points-numbered : (n : ℕ) → T (numbered (pointsRows q points n))
   unfolding pointsRows pointRows numbered
   points-numbered zero = tt
   points-numbered (suc n) = numbered-append (pointsRows q points n) (pointRows q points n) (points-numbered n) tt

@@ -123,7 +123,15 @@ unfoldable pub planTests : Job → List ℕ → List Row
 planTests job points = (noModulus (job .modulus), 1) ∷ (rangeTests job ++ (fitTests job ++ pointTests (prime job) (job .hosts) points))
 
 unfoldable pub planOf : Job → Plan
-planOf job = record { modulus = modulusOf job; layout = layoutOf job; needed = neededOf job }
+planOf job = record {
+  modulus = modulusOf job;
+  layout = layoutOf job;
+  parameters = parameters job;
+  rows = blockRows job;
+  inner = blockInner job;
+  columns = blockColumns job;
+  needed = neededOf job;
+}
 
 unfoldable pub planned : Job → List ℕ → Planned
 planned job points = answer (first (planTests job points)) (Accepted (planOf job)) Refused

@@ -4,21 +4,21 @@ ghost use Prim.Native.Nat.{_≤_};
 ghost use lib.ListN.{length, take};
 ghost use Rattle.refusal.specs.Chain.{first};
 ghost use Rattle.plan.specs.Planning.{
-    parameters,
-    prime,
-    neededOf,
-    sizeTest,
-    cutTest,
-    groupTest,
-    divisionTest,
-    blockTest,
-    hostsTest,
-    neededTest,
-    rangeTests,
-    fitTests,
-    member,
-    pointTests,
-    planned,
+  parameters,
+  prime,
+  neededOf,
+  sizeTest,
+  cutTest,
+  groupTest,
+  divisionTest,
+  blockTest,
+  hostsTest,
+  neededTest,
+  rangeTests,
+  fitTests,
+  member,
+  pointTests,
+  planned,
 };
 use field::Modulus;
 use field::Named;
@@ -44,10 +44,15 @@ pub struct Job {
     pub number: u32,
 }
 
-// What an accepted job has: its modulus, its layout, and the number of answers needed.
+// What an accepted job has: its modulus, its layout with the cuts and group sizes, the sizes of its blocks (an A block is
+// rows by inner, a B block inner by columns, an answer rows by columns), and the number of answers needed.
 pub struct Plan {
     pub modulus: Modulus,
     pub layout: Layout,
+    pub parameters: Parameters,
+    pub rows: u32,
+    pub inner: u32,
+    pub columns: u32,
     pub needed: u32,
 }
 
@@ -59,9 +64,13 @@ pub enum Planned {
 
 // The largest sizes and numbers of 01, "The job".
 const MOST_SIDE: u32 = 16384;
+
 const MOST_CUTS: u32 = 8;
+
 const MOST_GROUP: u32 = 16;
+
 const MOST_ELEMENTS: u32 = 4096;
+
 const MOST_HOSTS: u32 = 64;
 
 // t, s or r is out of range.
@@ -90,7 +99,10 @@ fn cut_test(job: Job) -> bool
 fn group_test(job: Job) -> bool
     ensures { λ r. ⌜ r ≡ groupTest job ⌝ }
 {
-    either(outside(1, MOST_GROUP, job.xa), outside(1, MOST_GROUP, job.xb))
+    either(
+        outside(1, MOST_GROUP, job.xa),
+        outside(1, MOST_GROUP, job.xb),
+    )
 }
 
 // Tests 2 to 4: each number by itself.
@@ -246,6 +258,10 @@ pub fn plan_job(job: Job, points: &[u32]) -> Planned
     Planned::Accepted(Plan {
         modulus,
         layout,
+        parameters: g,
+        rows: job.t / job.m,
+        inner: job.s / job.p,
+        columns: job.r / job.n,
         needed,
     })
 }

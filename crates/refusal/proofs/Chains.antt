@@ -6,6 +6,7 @@
 --   numbered rows            no row has the number 0, as a test
 --   numbered-append          one such list after another
 --   first-append             one list of tests after another
+--   first-append-clear       no test of either holds
 --   first-append-hit         the first list tells a number already
 --   answer-refused, answer-done  an answer by its number
 --   inside-low, inside-high  what a number in its range tells
@@ -45,7 +46,7 @@ unfolding numbered
 numbered-append [] ys t u = u
 numbered-append (x ∷ xs) ys t u =
     both (not (eqb (x .1) 0)) (numbered (xs ++ ys)) (and-left (not (eqb (x .1) 0)) (numbered xs) t)
-      (numbered-append xs ys (and-right (not (eqb (x .1) 0)) (numbered xs) t) u)
+    (numbered-append xs ys (and-right (not (eqb (x .1) 0)) (numbered xs) t) u)
 
 -- none of the first rows' tests holds: the later rows decide
 pub first-append : (xs ys : List Row) → T (numbered xs) → first xs ≡ 0 → first (xs ++ ys) ≡ first ys
@@ -55,6 +56,17 @@ first-append (x ∷ xs) ys t z = go (x .0) (x .1) t z (first-append xs ys)
   where
     go : (b : Bool) (n : ℕ) → T (not (eqb n 0) && numbered xs) → cond b n (first xs) ≡ 0
         → (T (numbered xs) → first xs ≡ 0 → first (xs ++ ys) ≡ first ys) → cond b n (first (xs ++ ys)) ≡ first ys
+    go true n t z ih = absurd (T-not (eqb n 0) (and-left (not (eqb n 0)) (numbered xs) t) (subst (λ (k : ℕ). T (eqb n k)) z (eqb-refl n)))
+    go false n t z ih = ih (and-right (not (eqb n 0)) (numbered xs) t) z
+
+-- no test of two lists holds: none of either
+pub first-append-clear : (xs ys : List Row) → T (numbered xs) → first (xs ++ ys) ≡ 0 → (first xs ≡ 0) × (first ys ≡ 0)
+unfolding first numbered
+first-append-clear [] ys t e = (refl, e)
+first-append-clear (x ∷ xs) ys t e = go (x .0) (x .1) t e (first-append-clear xs ys)
+  where
+    go : (b : Bool) (n : ℕ) → T (not (eqb n 0) && numbered xs) → cond b n (first (xs ++ ys)) ≡ 0
+        → (T (numbered xs) → first (xs ++ ys) ≡ 0 → (first xs ≡ 0) × (first ys ≡ 0)) → (cond b n (first xs) ≡ 0) × (first ys ≡ 0)
     go true n t z ih = absurd (T-not (eqb n 0) (and-left (not (eqb n 0)) (numbered xs) t) (subst (λ (k : ℕ). T (eqb n k)) z (eqb-refl n)))
     go false n t z ih = ih (and-right (not (eqb n 0)) (numbered xs) t) z
 

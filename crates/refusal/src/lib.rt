@@ -4,18 +4,31 @@ ghost use mathlib.Core.Bool.{_||_};
 ghost use Rattle.refusal.specs.Chain.{outside as Chain·outside};
 
 pub const MODULUS: u32 = 1;
+
 pub const SIZE: u32 = 2;
+
 pub const CUTS: u32 = 3;
+
 pub const GROUPS: u32 = 4;
+
 pub const DIVISION: u32 = 5;
+
 pub const BLOCK: u32 = 6;
+
 pub const HOSTS: u32 = 7;
+
 pub const NEEDED: u32 = 8;
+
 pub const POINTS: u32 = 9;
+
 pub const POINT: u32 = 10;
+
 pub const REPEATED_POINT: u32 = 11;
+
 pub const ELEMENT: u32 = 14;
+
 pub const SIGNED: u32 = 25;
+
 pub const TEXT: u32 = 26;
 
 // n is not in low..high.

@@ -23,7 +23,6 @@ power-at t = and 0 power-kinds.ps (is 0 power-kinds.ps μ-power t) power.Pre
 abbrev power-below : ℕ → In 0 power-kinds.ps
 power-below t = and 0 power-kinds.ps (falls 0 power-kinds.ps _<_ μ-power t) power.Pre
 
--- src/lib.rt:56:9
 power-returns : (t : ℕ) → power-lts.Need-returns (
   power-below t,
   power.Post,
@@ -32,7 +31,6 @@ power-returns : (t : ℕ) → power-lts.Need-returns (
 ) (power-at t) power.Post
 power-returns t c = let a = c .before .args in power-none (prime (a .modulus)) (a .x) (a .exponent) (prime-prime (a .modulus) .above-one) (c .if1 .taken)
 
--- src/lib.rt:58:9
 power-power-requires : (t : ℕ) → power-lts.Need-power-requires (
   power-below t,
   power.Post,
@@ -41,7 +39,6 @@ power-power-requires : (t : ℕ) → power-lts.Need-power-requires (
 ) (power-at t) power.Post
 power-power-requires t c κs = omega (arith, c .before .pre .0)
 
--- src/lib.rt:59:9
 power-multiply-requires : (t : ℕ) → power-lts.Need-multiply-requires (
   power-below t,
   power.Post,
@@ -50,7 +47,6 @@ power-multiply-requires : (t : ℕ) → power-lts.Need-multiply-requires (
 ) (power-at t) power.Post
 power-multiply-requires t c κs = tt
 
--- src/lib.rt:63:9
 power-multiply-requires-2 : (t : ℕ) → power-lts.Need-multiply-requires-2 (
   power-below t,
   power.Post,
@@ -59,7 +55,6 @@ power-multiply-requires-2 : (t : ℕ) → power-lts.Need-multiply-requires-2 (
 ) (power-at t) power.Post
 power-multiply-requires-2 t c κs = tt
 
--- src/lib.rt:52:1
 power-returns-2 : (t : ℕ) → power-lts.Need-returns-2 (
   power-below t,
   power.Post,
@@ -71,7 +66,6 @@ power-returns-2 t c =
     let half = c .before .before .power in
     c .before .multiply .ensures ∙ power-even (prime (a .modulus)) (a .x) (a .exponent) (half .result) (half .ensures) (c .if2 .taken)
 
--- src/lib.rt:52:1
 power-returns-3 : (t : ℕ) → power-lts.Need-returns-3 (
   power-below t,
   power.Post,

@@ -1,3 +1,4 @@
+-- `field::inverse_of` meets its contract.
 use mathlib.Core.Path.{sym, ap, _∙_, subst}
 use Prim.Native.Nat.{ℕ, _*_, _/_, _^_, _<_, _≤_}
 use native.Mathlib.Nat.{mod-lt, le-of-lt, div-le-self, mul-le-mul, zero-mod}
@@ -9,9 +10,6 @@ use Rattle.field.proofs.Moduli.{prime-prime, prime-small}
 use Rattle.field.proofs.Euclid.{Euclid, euclid-start, euclid-step, euclid-end, new-factor}
 use Rattle.field.proofs.inverse_of.Statement.{statement}
 use Rattle.field.proofs.inverse_of.Tie as tie
-use Rattle.field.proofs.inverse_of.Reads as reads
-use Rattle.field.proofs.inverse_of.Lts as lts
-use Rattle.field.proofs.prime_of.Reads as prime-of-reads
 
 abbrev Inv-loop : tie.InvT-loop
 Inv-loop a q last₀ next₀ last-factor₀ next-factor₀ last next last-factor next-factor = Euclid q a last next last-factor next-factor
@@ -19,11 +17,9 @@ Inv-loop a q last₀ next₀ last-factor₀ next-factor₀ last next last-factor
 abbrev μ-loop : tie.MeasureT-loop
 μ-loop a q last₀ next₀ last-factor₀ next-factor₀ last next last-factor next-factor = next
 
--- src/lib.rt:71:13
 prime-of-requires : tie.Need-prime-of-requires Inv-loop μ-loop
 prime-of-requires c κs = search needs
 
--- src/lib.rt:71:13
 cast-q : tie.Need-cast-q Inv-loop μ-loop
 cast-q c = search needs
 
@@ -34,30 +30,24 @@ prime-q c = subst Prime (sym (c .prime-of .ensures)) (prime-prime (c .before .ar
 small-q : (c : tie.After-prime-of Inv-loop μ-loop) → c .prime-of .result < 2 ^ 31
 small-q c = subst (λ (k : ℕ). k < 2 ^ 31) (sym (c .prime-of .ensures)) (prime-small (c .before .args .modulus))
 
--- src/lib.rt:73:20
 rem-next : tie.Need-rem-next Inv-loop μ-loop
 rem-next c = omega (arith, prime-q c .above-one)
 
--- src/lib.rt:75:9
 returns : tie.Need-returns Inv-loop μ-loop
 returns c =
     let a = c .before .before .args in
     let q = c .before .prime-of in
     sym (ap (λ (k : ℕ). inverse k (a .a)) (sym (q .ensures)) ∙ inverse-of-zero (prime-q (c .before)) (a .a) (record { same = c .if1 .taken ∙ sym (zero-mod (q .result)) }))
 
--- src/lib.rt:80:9
 loop-holds : tie.Need-loop-holds Inv-loop μ-loop
 loop-holds c = euclid-start (c .before .prime-of .result) (c .before .before .args .a) (prime-q (c .before) .above-one)
 
--- src/lib.rt:84:24
 div-quotient : tie.Need-div-quotient Inv-loop μ-loop
 div-quotient c = omega arith
 
--- src/lib.rt:85:25
 rem-remainder : tie.Need-rem-remainder Inv-loop μ-loop
 rem-remainder c = omega arith
 
--- src/lib.rt:86:46
 mul-new-factor : tie.Need-mul-new-factor Inv-loop μ-loop
 mul-new-factor c =
     let l = c .before .loop in
@@ -65,39 +55,31 @@ mul-new-factor c =
     let small : l .next-factor ≤ 2 ^ 31 = omega (arith, small-q (c .before .before .before)) in
     omega (arith, mul-le-mul few small)
 
--- src/lib.rt:86:46
 rem-new-factor : tie.Need-rem-new-factor Inv-loop μ-loop
 rem-new-factor c = omega (arith, prime-q (c .before .before .before) .above-one)
 
--- src/lib.rt:86:42
 sub-new-factor : tie.Need-sub-new-factor Inv-loop μ-loop
 sub-new-factor c =
     let l = c .before .loop in
     le-of-lt (mod-lt (l .last / l .next * l .next-factor) (rem-new-factor c))
 
--- src/lib.rt:86:27
 add-new-factor : tie.Need-add-new-factor Inv-loop μ-loop
 add-new-factor c =
     omega (arith, small-q (c .before .before .before), c .before .loop .inv .last-small)
 
--- src/lib.rt:86:26
 rem-new-factor-2 : tie.Need-rem-new-factor-2 Inv-loop μ-loop
 rem-new-factor-2 c = omega (arith, prime-q (c .before .before .before) .above-one)
 
--- src/lib.rt:80:9
 loop-less : tie.Need-loop-less Inv-loop μ-loop
 loop-less c = mod-lt (c .before .loop .last) (rem-remainder c)
 
--- src/lib.rt:80:9
 loop-again : tie.Need-loop-again Inv-loop μ-loop
 unfolding new-factor
 loop-again c = euclid-step (prime-q (c .before .before .before) .above-one) (rem-remainder c) (c .before .loop .inv)
 
--- src/lib.rt:92:5
 cast-result : tie.Need-cast-result Inv-loop μ-loop
 cast-result c = omega (arith, small-q (c .before .before .before), c .before .loop .inv .last-small)
 
--- src/lib.rt:68:1
 returns-2 : tie.Need-returns-2 Inv-loop μ-loop
 returns-2 c =
     let q = c .before .before .before .prime-of in

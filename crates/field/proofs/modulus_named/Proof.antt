@@ -1,27 +1,22 @@
+-- `field::modulus_named` meets its contract.
 use mathlib.Core.Path.{sym, ap}
 use Rattle.field.specs.Modulus.{named}
 use Rattle.field.proofs.Moduli.{named-unknown}
 use Rattle.field.proofs.modulus_named.Statement.{statement}
 use Rattle.field.proofs.modulus_named.Tie as tie
-use Rattle.field.proofs.modulus_named.Reads as reads
-use Rattle.field.proofs.modulus_named.Lts as lts
 
--- src/lib.rt:21:1
 returns : tie.Need-returns
 unfolding named
 returns c = sym (ap named (c .match .keys1))
 
--- src/lib.rt:21:1
 returns-2 : tie.Need-returns-2
 unfolding named
 returns-2 c = sym (ap named (c .match .keys2))
 
--- src/lib.rt:21:1
 returns-3 : tie.Need-returns-3
 unfolding named
 returns-3 c = sym (ap named (c .match .keys3))
 
--- src/lib.rt:21:1
 returns-4 : tie.Need-returns-4
 returns-4 c =
     named-unknown (c .before .args .number) (c .match .rest .0 .0 .1) (c .match .rest .0 .1) (c .match .rest .1)

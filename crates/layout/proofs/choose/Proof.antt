@@ -1,26 +1,20 @@
+-- `layout::choose` meets its contract.
 use borrow.Author.Tests.{le-leb, lt-leb}
 use Rattle.layout.specs.Exponents.{choice, better}
 use borrow.Author.Needs.{needs}
 use Rattle.layout.proofs.choose.Statement.{statement}
 use Rattle.layout.proofs.choose.Tie as tie
-use Rattle.layout.proofs.choose.Reads as reads
-use Rattle.layout.proofs.choose.Lts as lts
-use Rattle.layout.proofs.needed.Reads as needed-reads
 
--- src/lib.rt:121:8
 needed-requires : tie.Need-needed-requires
 needed-requires c κs = search needs
 
--- src/lib.rt:121:36
 needed-requires-2 : tie.Need-needed-requires-2
 needed-requires-2 c κs = search needs
 
--- src/lib.rt:118:1
 returns : tie.Need-returns
 unfolding choice better
 returns c = rw (← c .before .before .needed .ensures, ← c .before .needed2 .ensures, le-leb _ _ (c .if1 .taken))
 
--- src/lib.rt:118:1
 returns-2 : tie.Need-returns-2
 unfolding choice better
 returns-2 c = rw (← c .before .before .needed .ensures, ← c .before .needed2 .ensures, lt-leb _ _ (c .if1 .left))

@@ -1,23 +1,17 @@
+-- `layout::nested` meets its contract.
 use Prim.Native.Nat.{_^_, _<_}
 use native.Mathlib.Omega.{arith}
 use borrow.Author.Needs.{needs}
 use Rattle.layout.proofs.Nests.{small-stride, small-rows, less-one}
 use Rattle.layout.proofs.nested.Statement.{statement}
 use Rattle.layout.proofs.nested.Tie as tie
-use Rattle.layout.proofs.nested.Reads as reads
-use Rattle.layout.proofs.nested.Lts as lts
-use Rattle.layout.proofs.combine.Reads as combine-reads
-use Rattle.layout.proofs.minus.Reads as minus-reads
 
--- src/lib.rt:70:9
 combine-requires : tie.Need-combine-requires
 combine-requires c κs = search needs
 
--- src/lib.rt:71:9
 combine-requires-2 : tie.Need-combine-requires-2
 combine-requires-2 c κs = search needs
 
--- src/lib.rt:72:9
 combine-requires-3 : tie.Need-combine-requires-3
 combine-requires-3 c κs =
     let e = c .before .before in
@@ -32,31 +26,24 @@ sizes c =
     let r = small-rows (e .args .outer) (c .before .combine2 .result) (e .fits .outer .fits) d in
     omega arith
 
--- src/lib.rt:75:21
 minus-requires : tie.Need-minus-requires
 minus-requires c κs = search needs
 
--- src/lib.rt:75:21
 add-t10 : tie.Need-add-t10
 add-t10 c = search needs
 
--- src/lib.rt:77:23
 add-minus : tie.Need-add-minus
 add-minus c = let s = sizes (c .before) in omega arith
 
--- src/lib.rt:77:23
 add-minus-2 : tie.Need-add-minus-2
 add-minus-2 c = let s = sizes (c .before) in omega arith
 
--- src/lib.rt:77:59
 add-minus-3 : tie.Need-add-minus-3
 add-minus-3 c = search needs
 
--- src/lib.rt:77:17
 minus-requires-2 : tie.Need-minus-requires-2
 minus-requires-2 c κs = search needs
 
--- src/lib.rt:67:1
 returns : tie.Need-returns
 returns c =
     let e = c .before .before .before .before .before in

@@ -1,41 +1,31 @@
+-- `layout::strides_of` meets its contract.
 use native.Mathlib.Omega.{arith}
 use borrow.Author.Needs.{needs}
 use Rattle.layout.proofs.Nests.{follows-first, follows-second}
 use Rattle.layout.proofs.strides_of.Statement.{statement}
 use Rattle.layout.proofs.strides_of.Tie as tie
-use Rattle.layout.proofs.strides_of.Reads as reads
-use Rattle.layout.proofs.strides_of.Lts as lts
-use Rattle.layout.proofs.nested.Reads as nested-reads
 
--- src/lib.rt:87:17
 enum-told : tie.Need-enum-told
 enum-told c = search needs
 
--- src/lib.rt:87:17
 nested-requires : tie.Need-nested-requires
 nested-requires c κs = search needs
 
--- src/lib.rt:91:27
 cast-t6 : tie.Need-cast-t6
 cast-t6 c = search needs
 
--- src/lib.rt:97:17
 enum-told-2 : tie.Need-enum-told-2
 enum-told-2 c = search needs
 
--- src/lib.rt:97:17
 nested-requires-2 : tie.Need-nested-requires-2
 nested-requires-2 c κs = search needs
 
--- src/lib.rt:99:27
 cast-t7 : tie.Need-cast-t7
 cast-t7 c = search needs
 
--- src/lib.rt:82:1
 returns : tie.Need-returns
 returns c = rw (c .before .before .enum-told .given .1) (follows-first _ _ (c .before .nested .ensures) (omega arith))
 
--- src/lib.rt:82:1
 returns-2 : tie.Need-returns-2
 returns-2 c = rw (c .before .before .enum-told2 .given .1) (follows-second _ _ (c .before .nested2 .ensures) (omega arith))
 

@@ -1,3 +1,4 @@
+-- `plan::block_test` meets its contract.
 use Prim.Native.Nat.{_/_, _≤_}
 use native.Mathlib.Nat.{div-le-self, mul-le-mul}
 use native.Mathlib.Omega.{arith}
@@ -6,54 +7,43 @@ use Rattle.plan.specs.Planning.{blockRows, blockInner, blockColumns, blo
 use borrow.Author.Needs.{needs}
 use Rattle.plan.proofs.block_test.Statement.{statement}
 use Rattle.plan.proofs.block_test.Tie as tie
-use Rattle.plan.proofs.block_test.Reads as reads
-use Rattle.plan.proofs.block_test.Lts as lts
-use Rattle.refusal.proofs.any.Reads as any-reads
 
--- src/lib.rt:123:16
 div-rows : tie.Need-div-rows
 div-rows c = let h = ranged _ (c .before .pre) in omega arith
 
--- src/lib.rt:124:17
 div-inner : tie.Need-div-inner
 div-inner c = let h = ranged _ (c .before .before .pre) in omega arith
 
--- src/lib.rt:125:19
 div-columns : tie.Need-div-columns
 div-columns c = let h = ranged _ (c .before .before .before .pre) in omega arith
 
--- src/lib.rt:127:25
 mul-any : tie.Need-mul-any
-mul-any c = 
+mul-any c =
     let e = c .before .before .before in
     let h = ranged _ (e .pre) in
     let a : e .args .job .t / e .args .job .m ≤ 16384 = omega (arith, div-le-self (e .args .job .t) (e .args .job .m)) in
     let b : e .args .job .s / e .args .job .p ≤ 16384 = omega (arith, div-le-self (e .args .job .s) (e .args .job .p)) in
     omega (arith, mul-le-mul a b)
 
--- src/lib.rt:128:25
 mul-any-2 : tie.Need-mul-any-2
-mul-any-2 c = 
+mul-any-2 c =
     let e = c .before .before .before in
     let h = ranged _ (e .pre) in
     let a : e .args .job .s / e .args .job .p ≤ 16384 = omega (arith, div-le-self (e .args .job .s) (e .args .job .p)) in
     let b : e .args .job .r / e .args .job .n ≤ 16384 = omega (arith, div-le-self (e .args .job .r) (e .args .job .n)) in
     omega (arith, mul-le-mul a b)
 
--- src/lib.rt:129:25
 mul-any-3 : tie.Need-mul-any-3
-mul-any-3 c = 
+mul-any-3 c =
     let e = c .before .before .before in
     let h = ranged _ (e .pre) in
     let a : e .args .job .t / e .args .job .m ≤ 16384 = omega (arith, div-le-self (e .args .job .t) (e .args .job .m)) in
     let b : e .args .job .r / e .args .job .n ≤ 16384 = omega (arith, div-le-self (e .args .job .r) (e .args .job .n)) in
     omega (arith, mul-le-mul a b)
 
--- src/lib.rt:126:5
 any-requires : tie.Need-any-requires
 any-requires c κs = search needs
 
--- src/lib.rt:119:1
 returns : tie.Need-returns
 unfolding blockRows blockInner blockColumns blockTest
 returns c = c .any .ensures

@@ -1,29 +1,21 @@
+-- `plan::cut_test` meets its contract.
 use Rattle.plan.specs.Planning.{cutTest}
 use borrow.Author.Needs.{needs}
 use Rattle.plan.proofs.cut_test.Statement.{statement}
 use Rattle.plan.proofs.cut_test.Tie as tie
-use Rattle.plan.proofs.cut_test.Reads as reads
-use Rattle.plan.proofs.cut_test.Lts as lts
-use Rattle.refusal.proofs.any.Reads as any-reads
-use Rattle.refusal.proofs.outside.Reads as outside-reads
 
--- src/lib.rt:81:9
 outside-requires : tie.Need-outside-requires
 outside-requires c κs = search needs
 
--- src/lib.rt:82:9
 outside-requires-2 : tie.Need-outside-requires-2
 outside-requires-2 c κs = search needs
 
--- src/lib.rt:83:9
 outside-requires-3 : tie.Need-outside-requires-3
 outside-requires-3 c κs = search needs
 
--- src/lib.rt:80:5
 any-requires : tie.Need-any-requires
 any-requires c κs = search needs
 
--- src/lib.rt:77:1
 returns : tie.Need-returns
 unfolding cutTest
 returns c = rw (c .any .ensures, c .before .outside3 .ensures, c .before .before .outside2 .ensures, c .before .before .before .outside .ensures)

@@ -1,25 +1,18 @@
+-- `plan::group_test` meets its contract.
 use Rattle.plan.specs.Planning.{groupTest}
 use borrow.Author.Needs.{needs}
 use Rattle.plan.proofs.group_test.Statement.{statement}
 use Rattle.plan.proofs.group_test.Tie as tie
-use Rattle.plan.proofs.group_test.Reads as reads
-use Rattle.plan.proofs.group_test.Lts as lts
-use Rattle.refusal.proofs.either.Reads as either-reads
-use Rattle.refusal.proofs.outside.Reads as outside-reads
 
--- src/lib.rt:91:12
 outside-requires : tie.Need-outside-requires
 outside-requires c κs = search needs
 
--- src/lib.rt:91:44
 outside-requires-2 : tie.Need-outside-requires-2
 outside-requires-2 c κs = search needs
 
--- src/lib.rt:91:5
 either-requires : tie.Need-either-requires
 either-requires c κs = search needs
 
--- src/lib.rt:88:1
 returns : tie.Need-returns
 unfolding groupTest
 returns c = rw (c .either .ensures, c .before .outside2 .ensures, c .before .before .outside .ensures)

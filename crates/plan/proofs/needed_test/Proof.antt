@@ -1,10 +1,8 @@
+-- `plan::needed_test` meets its contract.
 use Rattle.plan.specs.Planning.{neededTest}
 use Rattle.plan.proofs.needed_test.Statement.{statement}
 use Rattle.plan.proofs.needed_test.Tie as tie
-use Rattle.plan.proofs.needed_test.Reads as reads
-use Rattle.plan.proofs.needed_test.Lts as lts
 
--- src/lib.rt:144:1
 returns : tie.Need-returns
 unfolding neededTest
 returns c = rw (c .before .pre)

@@ -1,33 +1,26 @@
+-- `plan::parameters_of` meets its contract.
 use mathlib.Core.Path.{refl}
 use native.Mathlib.Omega.{arith}
 use Rattle.plan.proofs.Ranges.{ranged}
 use Rattle.plan.specs.Planning.{parameters}
 use Rattle.plan.proofs.parameters_of.Statement.{statement}
 use Rattle.plan.proofs.parameters_of.Tie as tie
-use Rattle.plan.proofs.parameters_of.Reads as reads
-use Rattle.plan.proofs.parameters_of.Lts as lts
 
--- src/lib.rt:197:12
 cast-t2 : tie.Need-cast-t2
 cast-t2 c = let h = ranged _ (c .before .pre) in omega arith
 
--- src/lib.rt:198:12
 cast-t3 : tie.Need-cast-t3
 cast-t3 c = let h = ranged _ (c .before .before .pre) in omega arith
 
--- src/lib.rt:199:12
 cast-t4 : tie.Need-cast-t4
 cast-t4 c = let h = ranged _ (c .before .before .before .pre) in omega arith
 
--- src/lib.rt:200:13
 cast-t5 : tie.Need-cast-t5
 cast-t5 c = let h = ranged _ (c .before .before .before .before .pre) in omega arith
 
--- src/lib.rt:201:13
 cast-t6 : tie.Need-cast-t6
 cast-t6 c = let h = ranged _ (c .before .before .before .before .before .pre) in omega arith
 
--- src/lib.rt:192:1
 returns : tie.Need-returns
 unfolding parameters
 returns c = refl

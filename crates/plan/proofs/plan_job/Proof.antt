@@ -1,47 +1,35 @@
+-- `plan::plan_job` meets its contract.
 use mathlib.Core.Path.{_≡_, refl, sym, ap, _∙_}
 use mathlib.Core.Bool.{false}
 use Prim.Native.Nat.{ℕ}
 use native.Mathlib.Nat.{suc-ne-zero}
+use native.Mathlib.Omega.{arith}
 use Rattle.refusal.specs.Chain.{first}
 use Rattle.field.specs.declared.Named.the-variants.{Is}
 use Rattle.field.specs.Modulus.{noModulus, named}
 use Rattle.field.proofs.Moduli.{none-named, known}
 use Rattle.plan.specs.Planning.{prime, layoutOf, neededOf, pointTests, planTests}
+use Rattle.plan.proofs.Ranges.{Ranged, ranged}
 use Rattle.plan.proofs.Answers.{plan-modulus, plan-range, plan-fit, plan-points, refused, accepted, layout-is, needed-is}
 use borrow.Author.Needs.{needs}
 use Rattle.plan.proofs.plan_job.Statement.{statement}
 use Rattle.plan.proofs.plan_job.Tie as tie
-use Rattle.plan.proofs.plan_job.Reads as reads
-use Rattle.plan.proofs.plan_job.Lts as lts
-use Rattle.field.proofs.modulus_named.Reads as modulus-named-reads
-use Rattle.field.proofs.prime_of.Reads as prime-of-reads
-use Rattle.layout.proofs.choose.Reads as choose-reads
-use Rattle.layout.proofs.needed.Reads as needed-reads
-use Rattle.plan.proofs.fit_refusal.Reads as fit-refusal-reads
-use Rattle.plan.proofs.parameters_of.Reads as parameters-of-reads
-use Rattle.plan.proofs.point_refusal.Reads as point-refusal-reads
-use Rattle.plan.proofs.range_refusal.Reads as range-refusal-reads
 
--- src/lib.rt:227:30
 modulus-named-requires : tie.Need-modulus-named-requires
 modulus-named-requires c κs = search needs
 
--- src/lib.rt:227:19
 enum-known-modulus : tie.Need-enum-known-modulus
 enum-known-modulus c = search needs
 
--- src/lib.rt:228:9
 enum-told : tie.Need-enum-told
 enum-told c = search needs
 
--- src/lib.rt:228:9
 returns : tie.Need-returns
 returns c =
     let e = c .before .before .before .before in
     let unknown = none-named (e .args .job .modulus) (sym (c .before .before .modulus-named .ensures) ∙ c .enum-told .given .1) in
     refused (e .args .job) (e .args .points .now) 1 (λ z. suc-ne-zero 0 z) (plan-modulus (e .args .job) (e .args .points .now) unknown)
 
--- src/lib.rt:230:9
 range-refusal-requires : tie.Need-range-refusal-requires
 range-refusal-requires c κs = search needs
 
@@ -52,27 +40,22 @@ named-is c = sym (c .before .before .modulus-named .ensures) ∙ c .modulus .giv
 a-number : (c : tie.After-modulus) → noModulus (c .before .before .before .before .args .job .modulus) ≡ false
 a-number c = known (c .before .before .before .before .args .job .modulus) (named-is c) refl .is-number
 
--- src/lib.rt:232:9
 returns-2 : tie.Need-returns-2
 returns-2 c =
     let e = c .before .before .before .before .before .before .before in
     let r = c .before .range-refusal in
     refused (e .args .job) (e .args .points .now) (r .result) (c .if1 .taken)
-      (plan-range (e .args .job) (e .args .points .now) (a-number (c .before .before .before)) (r .result) (c .if1 .taken) (sym (r .ensures)))
+    (plan-range (e .args .job) (e .args .points .now) (a-number (c .before .before .before)) (r .result) (c .if1 .taken) (sym (r .ensures)))
 
--- src/lib.rt:234:9
 parameters-of-requires : tie.Need-parameters-of-requires
 parameters-of-requires c κs = sym (c .before .range-refusal .ensures) ∙ c .if1 .left
 
--- src/lib.rt:235:9
 choose-requires : tie.Need-choose-requires
 choose-requires c κs = search needs
 
--- src/lib.rt:236:9
 needed-requires : tie.Need-needed-requires
 needed-requires c κs = search needs
 
--- src/lib.rt:237:9
 prime-of-requires : tie.Need-prime-of-requires
 prime-of-requires c κs = search needs
 
@@ -86,31 +69,28 @@ prime-is c =
 chosen : (c : tie.After-prime-of) → c .before .before .choose .result ≡ layoutOf (c .before .before .before .before .before .before .before .before .before .before .before .args .job)
 chosen c =
     layout-is (c .before .before .before .before .before .before .before .before .before .before .before .args .job)
-      (c .before .before .before .parameters-of .result) (c .before .before .before .parameters-of .ensures)
-      (c .before .before .choose .result) (c .before .before .choose .ensures)
+    (c .before .before .before .parameters-of .result) (c .before .before .before .parameters-of .ensures)
+    (c .before .before .choose .result) (c .before .before .choose .ensures)
 
 enough : (c : tie.After-prime-of) → c .before .needed .result ≡ neededOf (c .before .before .before .before .before .before .before .before .before .before .before .args .job)
 enough c =
     c .before .needed .ensures
     ∙ needed-is (c .before .before .before .before .before .before .before .before .before .before .before .args .job)
-      (c .before .before .before .parameters-of .result) (c .before .before .before .parameters-of .ensures)
-      (c .before .before .choose .result) (c .before .before .choose .ensures)
+    (c .before .before .before .parameters-of .result) (c .before .before .before .parameters-of .ensures)
+    (c .before .before .choose .result) (c .before .before .choose .ensures)
 
--- src/lib.rt:238:9
 fit-refusal-requires : tie.Need-fit-refusal-requires
 fit-refusal-requires c κs = (parameters-of-requires (c .before .before .before .before) κs, (prime-is c, enough c))
 
--- src/lib.rt:240:9
 returns-3 : tie.Need-returns-3
 returns-3 c =
     let p = c .before .before in
     let e = p .before .before .before .before .before .before .before .before .before .before .before in
     let r = c .before .fit-refusal in
     refused (e .args .job) (e .args .points .now) (r .result) (c .if2 .taken)
-      (plan-fit (e .args .job) (e .args .points .now) (a-number (p .before .before .before .before .before .before .before))
-        (parameters-of-requires (p .before .before .before .before) tt) (r .result) (c .if2 .taken) (sym (r .ensures)))
+    (plan-fit (e .args .job) (e .args .points .now) (a-number (p .before .before .before .before .before .before .before))
+    (parameters-of-requires (p .before .before .before .before) tt) (r .result) (c .if2 .taken) (sym (r .ensures)))
 
--- src/lib.rt:242:9
 point-refusal-requires : tie.Need-point-refusal-requires
 point-refusal-requires c κs = search needs
 
@@ -120,26 +100,38 @@ decided c =
     let p = c .before .before .before in
     let e = p .before .before .before .before .before .before .before .before .before .before .before in
     plan-points (e .args .job) (e .args .points .now) (a-number (p .before .before .before .before .before .before .before))
-      (parameters-of-requires (p .before .before .before .before) tt)
-      (sym (c .before .before .fit-refusal .ensures) ∙ c .before .if2 .left)
+    (parameters-of-requires (p .before .before .before .before) tt)
+    (sym (c .before .before .fit-refusal .ensures) ∙ c .before .if2 .left)
     ∙ ap (λ (q : ℕ). first (pointTests q (e .args .job .hosts) (e .args .points .now))) (sym (prime-is p))
     ∙ sym (c .point-refusal .ensures)
 
--- src/lib.rt:244:9
 returns-4 : tie.Need-returns-4
 returns-4 c =
     let p = c .before .before .before .before in
     let e = p .before .before .before .before .before .before .before .before .before .before .before in
     refused (e .args .job) (e .args .points .now) (c .before .point-refusal .result) (c .if3 .taken) (decided (c .before))
 
--- src/lib.rt:224:1
+-- the cuts are not 0
+cuts : (c : tie.After-prime-of) → Ranged (c .before .before .before .before .before .before .before .before .before .before .before .args .job)
+cuts c = ranged (c .before .before .before .before .before .before .before .before .before .before .before .args .job) (parameters-of-requires (c .before .before .before .before) tt)
+
+div-t13 : tie.Need-div-t13
+div-t13 c = let r = cuts (c .before .before .before .before .before) in omega arith
+
+div-t14 : tie.Need-div-t14
+div-t14 c = let r = cuts (c .before .before .before .before .before .before) in omega arith
+
+div-t15 : tie.Need-div-t15
+div-t15 c = let r = cuts (c .before .before .before .before .before .before .before) in omega arith
+
 returns-5 : tie.Need-returns-5
 returns-5 c =
-    let p = c .before .before .before .before in
+    let d = c .before .before .before in
+    let p = d .before .before .before .before in
     let m = p .before .before .before .before .before .before .before in
     let e = m .before .before .before .before in
-    accepted (e .args .job) (e .args .points .now) (m .modulus .given .0 .0) (p .before .before .choose .result) (p .before .needed .result)
-      (named-is m) (chosen p) (enough p) (decided (c .before) ∙ c .if3 .left)
+    accepted (e .args .job) (e .args .points .now) (m .modulus .given .0 .0) (p .before .before .choose .result) (p .before .before .before .parameters-of .result) (p .before .needed .result)
+    (named-is m) (chosen p) (p .before .before .before .parameters-of .ensures) (enough p) (decided (d .before) ∙ d .if3 .left)
 
 pub plan-job-spec : {M : Type 1} → statement M
 plan-job-spec =
@@ -159,4 +151,7 @@ plan-job-spec =
     returns-3
     point-refusal-requires
     returns-4
+    div-t13
+    div-t14
+    div-t15
     returns-5)

@@ -1,20 +1,17 @@
+-- `plan::point_refusal` meets its contract.
 use mathlib.Core.Path.{_∙_}
 use mathlib.Core.List.{[], _∷_}
-use lib.ListN.{getD, take}
+use lib.ListN.{getD}
 use Rattle.refusal.proofs.Chains.{first-none, first-hit, first-miss}
 use Prim.Native.Nat.{_-_, _≤_}
 use mathlib.Core.Path.{_≡_, refl, sym}
 use native.Mathlib.Omega.{arith}
 use lib.ListN.{length}
 use Rattle.refusal.specs.Chain.{first}
-use Rattle.plan.specs.Planning.{pointRows, pointsRows, pointTests}
+use Rattle.plan.specs.Planning.{pointRows, pointsRows}
 use Rattle.plan.proofs.Points.{pass-point, stop-point, length-differs, length-same}
 use Rattle.plan.proofs.point_refusal.Statement.{statement}
 use Rattle.plan.proofs.point_refusal.Tie as tie
-use Rattle.plan.proofs.point_refusal.Reads as reads
-use Rattle.plan.proofs.point_refusal.Lts as lts
-use Rattle.plan.proofs.stands_before.Reads as stands-before-reads
-use Rattle.refusal.proofs.either.Reads as either-reads
 
 abbrev Inv-loop : tie.InvT-loop
 Inv-loop q hosts points i₀ i = record { short : i ≤ length points; pass : first (pointsRows q points i) ≡ 0 }
@@ -22,66 +19,55 @@ Inv-loop q hosts points i₀ i = record { short : i ≤ length points; pass : fi
 abbrev μ-loop : tie.MeasureT-loop
 μ-loop q hosts points i₀ i = length points - i
 
--- src/lib.rt:175:9
 returns : tie.Need-returns Inv-loop μ-loop
 returns c = sym (length-differs (c .before .before .args .q) (c .before .before .args .points .now) (c .before .before .args .hosts) (c .if1 .taken))
 
--- src/lib.rt:178:5
 loop-holds : tie.Need-loop-holds Inv-loop μ-loop
 unfolding first pointsRows
 loop-holds c = record { short = omega arith; pass = refl }
 
--- src/lib.rt:179:17
 mul-x : tie.Need-mul-x Inv-loop μ-loop
 mul-x c = omega arith
 
--- src/lib.rt:179:17
 shared-slice-read-x : tie.Need-shared-slice-read-x Inv-loop μ-loop
 shared-slice-read-x c = omega arith
 
--- src/lib.rt:180:12
 either-requires : tie.Need-either-requires Inv-loop μ-loop
 either-requires c κs = tt
 
--- src/lib.rt:181:13
 returns-2 : tie.Need-returns-2 Inv-loop μ-loop
 unfolding pointRows
-returns-2 c = 
+returns-2 c =
     let e = c .before .before .before .before .before .before .before in
     let i = c .before .before .before .before .loop .i in
     let x = getD (e .args .points .now) i 0 in
     sym (length-same (e .args .q) (e .args .points .now) (e .args .hosts) (c .before .before .before .before .before .if1 .left)
     ∙ stop-point (e .args .q) (e .args .points .now) i (length (e .args .points .now)) 9 (omega arith) (c .before .before .before .before .loop .inv .pass)
-        (first-hit _ 10 _ (sym (c .before .either .ensures) ∙ c .if2 .taken)))
+    (first-hit _ 10 _ (sym (c .before .either .ensures) ∙ c .if2 .taken)))
 
--- src/lib.rt:183:12
 stands-before-requires : tie.Need-stands-before-requires Inv-loop μ-loop
 stands-before-requires c κs = omega arith
 
--- src/lib.rt:184:13
 returns-3 : tie.Need-returns-3 Inv-loop μ-loop
 unfolding pointRows
-returns-3 c = 
+returns-3 c =
     let e = c .before .before .before .before .before .before .before .before .before in
     let i = c .before .before .before .before .before .before .loop .i in
     let x = getD (e .args .points .now) i 0 in
     sym (length-same (e .args .q) (e .args .points .now) (e .args .hosts) (c .before .before .before .before .before .before .before .if1 .left)
     ∙ stop-point (e .args .q) (e .args .points .now) i (length (e .args .points .now)) 10 (omega arith) (c .before .before .before .before .before .before .loop .inv .pass)
-        (first-miss _ 10 _ (sym (c .before .before .before .either .ensures) ∙ c .before .before .if2 .left)
-        ∙ first-hit _ 11 _ (sym (c .before .stands-before .ensures) ∙ c .if3 .taken)))
+    (first-miss _ 10 _ (sym (c .before .before .before .either .ensures) ∙ c .before .before .if2 .left)
+    ∙ first-hit _ 11 _ (sym (c .before .stands-before .ensures) ∙ c .if3 .taken)))
 
--- src/lib.rt:186:9
 add-i : tie.Need-add-i Inv-loop μ-loop
 add-i c = omega arith
 
--- src/lib.rt:178:5
 loop-less : tie.Need-loop-less Inv-loop μ-loop
 loop-less c = omega arith
 
--- src/lib.rt:178:5
 loop-again : tie.Need-loop-again Inv-loop μ-loop
 unfolding pointRows
-loop-again c = 
+loop-again c =
     let e = c .before .before .before .before .before .before .before .before .before in
     let i = c .before .before .before .before .before .before .loop .i in
     let x = getD (e .args .points .now) i 0 in
@@ -89,14 +75,13 @@ loop-again c =
       short = omega arith;
       pass =
           pass-point (e .args .q) (e .args .points .now) i (c .before .before .before .before .before .before .loop .inv .pass)
-            (first-miss _ 10 _ (sym (c .before .before .before .either .ensures) ∙ c .before .before .if2 .left)
-            ∙ first-miss _ 11 _ (sym (c .before .stands-before .ensures) ∙ c .if3 .left)
-            ∙ first-none);
+          (first-miss _ 10 _ (sym (c .before .before .before .either .ensures) ∙ c .before .before .if2 .left)
+          ∙ first-miss _ 11 _ (sym (c .before .stands-before .ensures) ∙ c .if3 .left)
+          ∙ first-none);
     }
 
--- src/lib.rt:171:1
 returns-4 : tie.Need-returns-4 Inv-loop μ-loop
-returns-4 c = 
+returns-4 c =
     let e = c .before .before .before .before in
     let all : c .before .loop .i ≡ length (e .args .points .now) = omega arith in
     sym (length-same (e .args .q) (e .args .points .now) (e .args .hosts) (c .before .before .if1 .left) ∙ (rw all at (c .before .loop .inv .pass)))

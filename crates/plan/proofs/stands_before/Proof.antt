@@ -1,15 +1,14 @@
+-- `plan::stands_before` meets its contract.
 use Prim.Native.Nat.{_-_, _≤_}
 use mathlib.Core.Path.{_≡_, refl, sym}
 use mathlib.Core.Bool.{false}
 use native.Mathlib.Numerals.{add-one}
 use native.Mathlib.Omega.{arith}
-use lib.ListN.{length, take}
+use lib.ListN.{take}
 use Rattle.plan.specs.Planning.{member}
 use Rattle.plan.proofs.Points.{member-at, member-none}
 use Rattle.plan.proofs.stands_before.Statement.{statement}
 use Rattle.plan.proofs.stands_before.Tie as tie
-use Rattle.plan.proofs.stands_before.Reads as reads
-use Rattle.plan.proofs.stands_before.Lts as lts
 
 abbrev Inv-loop : tie.InvT-loop
 Inv-loop points n x i₀ i = record { short : i ≤ n; none : member x (take i points) ≡ false }
@@ -17,36 +16,29 @@ Inv-loop points n x i₀ i = record { short : i ≤ n; none : member x (take i p
 abbrev μ-loop : tie.MeasureT-loop
 μ-loop points n x i₀ i = n - i
 
--- src/lib.rt:161:5
 loop-holds : tie.Need-loop-holds Inv-loop μ-loop
 unfolding member
 loop-holds c = record { short = omega arith; none = refl }
 
--- src/lib.rt:162:12
 mul-if1 : tie.Need-mul-if1 Inv-loop μ-loop
 mul-if1 c = omega arith
 
--- src/lib.rt:162:12
 shared-slice-read-if1 : tie.Need-shared-slice-read-if1 Inv-loop μ-loop
 shared-slice-read-if1 c = omega arith
 
--- src/lib.rt:163:13
 returns : tie.Need-returns Inv-loop μ-loop
-returns c = 
+returns c =
     let a = c .before .before .before .before .args in
     sym (member-at (a .points .now) (a .n) (c .before .before .before .loop .i) (a .x) (omega arith) (omega arith) (c .if1 .taken))
 
--- src/lib.rt:165:9
 add-i : tie.Need-add-i Inv-loop μ-loop
 add-i c = omega arith
 
--- src/lib.rt:161:5
 loop-less : tie.Need-loop-less Inv-loop μ-loop
 loop-less c = omega arith
 
--- src/lib.rt:161:5
 loop-again : tie.Need-loop-again Inv-loop μ-loop
-loop-again c = 
+loop-again c =
     let a = c .before .before .before .before .args in
     let i = c .before .before .before .loop .i in
     record {
@@ -54,9 +46,8 @@ loop-again c =
       none = rw add-one (member-none (a .points .now) i (a .x) (omega arith) (c .before .before .before .loop .inv .none) (c .if1 .left));
     }
 
--- src/lib.rt:156:1
 returns-2 : tie.Need-returns-2 Inv-loop μ-loop
-returns-2 c = 
+returns-2 c =
     let a = c .before .before .args in
     let all : c .before .loop .i ≡ a .n = omega arith in
     sym (rw all at (c .before .loop .inv .none))

@@ -1,17 +1,13 @@
-use mathlib.Core.Path.{sym}
+-- `refusal::outside` meets its contract.
 use borrow.Author.Tests.{lt-ltb, le-ltb}
 use Rattle.refusal.specs.Chain.{outside}
 use Rattle.refusal.proofs.outside.Statement.{statement}
 use Rattle.refusal.proofs.outside.Tie as tie
-use Rattle.refusal.proofs.outside.Reads as reads
-use Rattle.refusal.proofs.outside.Lts as lts
 
--- src/lib.rt:22:1
 returns : tie.Need-returns
 unfolding outside
 returns c = rw (lt-ltb (c .before .args .n) (c .before .args .low) (c .if1 .taken))
 
--- src/lib.rt:22:1
 returns-2 : tie.Need-returns-2
 unfolding outside
 returns-2 c = rw (le-ltb (c .before .args .n) (c .before .args .low) (c .if1 .left))

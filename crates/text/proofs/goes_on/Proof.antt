@@ -1,3 +1,4 @@
+-- `text::goes_on` meets its contract.
 use Rattle.text.specs.Line.{goesOn}
 use Rattle.text.proofs.goes_on.Statement.{statement}
 use Rattle.text.proofs.goes_on.Tie as tie

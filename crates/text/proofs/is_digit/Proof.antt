@@ -1,3 +1,4 @@
+-- `text::is_digit` meets its contract.
 use borrow.Author.Tests.{le-leb, lt-leb}
 use Rattle.text.specs.Line.{isDigit}
 use Rattle.text.proofs.is_digit.Statement.{statement}

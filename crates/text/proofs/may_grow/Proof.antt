@@ -1,3 +1,4 @@
+-- `text::may_grow` meets its contract.
 use borrow.Author.Tests.{lt-ltb, le-ltb}
 use Rattle.text.specs.Line.{grows}
 use Rattle.text.proofs.may_grow.Statement.{statement}

@@ -1,3 +1,4 @@
+-- `text::put_decimal` meets its contract.
 use mathlib.Core.List.{List}
 use mathlib.Core.Path.{_≡_, sym, ap, _∙_}
 use Prim.Native.Nat.{ℕ, _+_, _-_}

@@ -1,3 +1,4 @@
+-- `text::separator_after` meets its contract.
 use borrow.Author.Tests.{eq-eqb, ne-eqb}
 use Rattle.text.specs.Line.{separator}
 use Rattle.text.proofs.separator_after.Statement.{statement}

@@ -1,0 +1,4 @@
+-- Laws of the lister's text.
+pub mod Writes
+pub mod Room
+pub mod Replies

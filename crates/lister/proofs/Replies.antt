@@ -1,0 +1,36 @@
+-- What is printed, by cases.
+--
+--   listed             a text that was written at the front is what the lister is to print
+--   malformed          the input is no line of ten numbers
+--   replied            it is, and planning answers
+use mathlib.Core.Path.{_≡_, sym, ap, _∙_}
+use mathlib.Core.Bool.{Bool, true, false, cond}
+use mathlib.Core.List.{List}
+use Prim.Native.Nat.{ℕ, suc, _+_, _≤_}
+use native.Mathlib.Omega.{arith}
+use lib.ListN.{length}
+use Rattle.algebra.specs.Lists.{tab}
+use Rattle.plan.specs.declared.Planned.{Planned}
+use Rattle.plan.specs.Planning.{planned}
+use Rattle.text.specs.Decimal.{put}
+use Rattle.text.specs.Line.{lineOf}
+use Rattle.lister.specs.Listing.{refusedText, jobOf, told, reply, listing}
+use Rattle.lister.specs.Writing.{Wrote}
+use Rattle.lister.proofs.Writes.{length-kept}
+
+pub listed : {out text exit : List ℕ} {end : ℕ} (input : List ℕ) → text ≡ listing input → length text ≤ length out → Wrote out 0 text exit end
+    → (end ≤ length exit) × ((end ≡ length (listing input)) × (exit ≡ put out 0 (listing input)))
+listed {out} {text} {exit} {end} input is room w =
+    (omega (arith, w .behind, length-kept w), (omega (arith, w .behind, ap length is), w .is ∙ ap (put out 0) is))
+
+pub malformed : (input : List ℕ) → lineOf input .ok ≡ false → refusedText 26 ≡ listing input
+unfolding listing
+malformed input e = sym (ap (λ (b : Bool). cond b (reply (jobOf (lineOf input .numbers))) (refusedText 26)) e)
+
+pub replied : (input : List ℕ) {answer : Planned} → lineOf input .ok ≡ true
+    → answer ≡ planned (jobOf (lineOf input .numbers)) (tab suc (jobOf (lineOf input .numbers) .hosts))
+    → told (jobOf (lineOf input .numbers) .hosts) answer ≡ listing input
+unfolding listing reply
+replied input e p =
+    ap (told (jobOf (lineOf input .numbers) .hosts)) p
+    ∙ sym (ap (λ (b : Bool). cond b (reply (jobOf (lineOf input .numbers))) (refusedText 26)) e)

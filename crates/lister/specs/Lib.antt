@@ -1,0 +1,3 @@
+-- The plan lister: the text of a plan.
+pub mod Listing
+pub mod Writing

@@ -1,0 +1,115 @@
+-- The plan lister (01, "The plan lister").
+--
+--   ascii s              == the bytes of a text
+--   values ns            == the numbers in decimal, each after a space
+--   line label ns        == a line: its label, then its values
+--   sideLine             == a side's line: the exponents of its blocks, a bar, then those of its masks
+--   numberLines          == the lines of q, layout, N and K
+--   aLine, bLine, cLine  == the lines of A, of B and of C
+--   grid f rows columns  == f row by row
+--   planText hosts plan  == the seven lines of a plan
+--   refusedText n        == the line of a refusal
+--   jobOf ns             == the job of the ten numbers of a line
+--   told hosts answer    == the text of what planning answers
+--   reply job            == what is printed for a job, with the points 1..N
+--   listing input        == what is printed for an input: 26 comes before all others
+use mathlib.Core.Bool.{cond}
+use mathlib.Core.List.{List, [], _∷_, _++_}
+use Prim.Native.Nat.{ℕ, zero, suc}
+use Prim.Native.Char.{code}
+use Prim.Native.String.{String}
+use lib.ListN.{getD}
+use Rattle.algebra.specs.Lists.{tab}
+use Rattle.field.specs.Modulus.{prime}
+use Rattle.layout.specs.declared.Parameters.{Parameters}
+use Rattle.layout.specs.declared.Layout.{Layout}
+use Rattle.layout.specs.Exponents.{exponents, number, term}
+use Rattle.plan.specs.declared.Job.{Job}
+use Rattle.plan.specs.declared.Plan.{Plan}
+use Rattle.plan.specs.declared.Planned.{Planned}
+use Rattle.plan.specs.declared.Planned.the-variants.{Accepted, Refused}
+use Rattle.plan.specs.Planning.{planned}
+use Rattle.text.specs.Decimal.{decimal}
+use Rattle.text.specs.Line.{lineOf}
+use Rattle.layout.specs.declared.Series.the-variants.{BlocksA, MasksA, BlocksB, MasksB, Places}
+
+abbrev pub ascii : String → List ℕ
+ascii String.[] = []
+ascii (String._∷_ c s) = code c ∷ ascii s
+
+unfoldable pub value : ℕ → List ℕ
+value n = ascii " " ++ decimal n
+
+unfoldable pub values : List ℕ → List ℕ
+values [] = []
+values (n ∷ ns) = value n ++ values ns
+
+unfoldable pub line : List ℕ → List ℕ → List ℕ
+line label ns = label ++ (values ns ++ ascii "\n")
+
+unfoldable pub sideLine : List ℕ → List ℕ → List ℕ → List ℕ
+sideLine label blocks masks = label ++ (values blocks ++ (ascii " |" ++ (values masks ++ ascii "\n")))
+
+unfoldable pub grid : (ℕ → ℕ → ℕ) → ℕ → ℕ → List ℕ
+grid f zero columns = []
+grid f (suc rows) columns = grid f rows columns ++ tab (f rows) columns
+
+-- q; layout; N; K
+unfoldable pub numberLines : ℕ → Plan → List ℕ
+numberLines hosts plan =
+    line (ascii "MODULUS") (prime (plan .modulus) ∷ [])
+    ++ (line (ascii "LAYOUT") (number (plan .layout) ∷ [])
+    ++ (line (ascii "HOSTS") (hosts ∷ [])
+    ++ line (ascii "NEEDED") (plan .needed ∷ [])))
+
+-- the exponents of A's blocks row by row, a bar, then those of its masks
+unfoldable pub aLine : Layout → Parameters → List ℕ
+aLine layout g =
+    let e = exponents layout g in
+    sideLine (ascii "A") (grid (term e BlocksA) (g .m) (g .p)) (tab (term e MasksA 0) (g .xa))
+
+-- the same for B
+unfoldable pub bLine : Layout → Parameters → List ℕ
+bLine layout g =
+    let e = exponents layout g in
+    sideLine (ascii "B") (grid (term e BlocksB) (g .p) (g .n)) (tab (term e MasksB 0) (g .xb))
+
+-- the places of C row by row
+unfoldable pub cLine : Layout → Parameters → List ℕ
+cLine layout g = line (ascii "C") (grid (term (exponents layout g) Places) (g .m) (g .n))
+
+unfoldable pub planText : ℕ → Plan → List ℕ
+planText hosts plan =
+    numberLines hosts plan
+    ++ (aLine (plan .layout) (plan .parameters)
+    ++ (bLine (plan .layout) (plan .parameters)
+    ++ cLine (plan .layout) (plan .parameters)))
+
+unfoldable pub refusedText : ℕ → List ℕ
+refusedText n = line (ascii "REFUSED") (n ∷ [])
+
+-- the lister knows no job number: it is 0
+unfoldable pub jobOf : List ℕ → Job
+jobOf ns = record {
+  modulus = getD ns 0 0;
+  t = getD ns 1 0;
+  s = getD ns 2 0;
+  r = getD ns 3 0;
+  m = getD ns 4 0;
+  p = getD ns 5 0;
+  n = getD ns 6 0;
+  xa = getD ns 7 0;
+  xb = getD ns 8 0;
+  hosts = getD ns 9 0;
+  number = 0;
+}
+
+unfoldable pub told : ℕ → Planned → List ℕ
+told hosts (Accepted plan) = planText hosts plan
+told hosts (Refused n) = refusedText n
+
+unfoldable pub reply : Job → List ℕ
+reply job = told (job .hosts) (planned job (tab suc (job .hosts)))
+
+unfoldable pub listing : List ℕ → List ℕ
+listing input = let l = lineOf input in cond (l .ok) (reply (jobOf (l .numbers))) (refusedText 26)
