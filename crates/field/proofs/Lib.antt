@@ -1,8 +1,5 @@
--- Laws of the moduli, of powers, of Euclid's remainders and of signed reading.
+-- Laws of the moduli, of powers, of Euclid's remainders, and of what fits a word.
 pub mod Moduli
 pub mod Powers
 pub mod Euclid
-pub mod Readings
-pub mod Answers
 pub mod Words
-pub mod Exactness

@@ -1,3 +1,2 @@
--- The prime field: its moduli, and elements as signed whole numbers.
+-- The prime field: its moduli.
 pub mod Modulus
-pub mod Signed

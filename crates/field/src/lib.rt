@@ -1,10 +1,4 @@
-// The prime field: modulus numbers, powers, inverses, and elements as signed whole numbers.
-mod signed;
-
-pub use signed::Element;
-pub use signed::Signed;
-pub use signed::element_of;
-pub use signed::signed_reading;
+// The prime field: modulus numbers, products, powers and inverses.
 ghost use mathlib.Core.Path.{_≡_};
 ghost use Prim.Native.Nat.{_*_, _^_, _%_};
 ghost use Rattle.algebra.specs.Modular.{inverse};

@@ -13,7 +13,7 @@ use Rattle.algebra.specs.Lists.{tab}
 use Rattle.plan.specs.declared.Planned.{Planned}
 use Rattle.plan.specs.Planning.{planned}
 use Rattle.text.specs.Decimal.{put}
-use Rattle.text.specs.Line.{lineOf}
+use Rattle.line.specs.Line.{lineOf}
 use Rattle.lister.specs.Listing.{refusedText, jobOf, told, reply, listing}
 use Rattle.lister.specs.Writing.{Wrote}
 use Rattle.lister.proofs.Writes.{length-kept}

@@ -1,5 +1,3 @@
--- Laws of numbers as text.
-pub mod Puts
+-- Laws of decimal numbers, and of bytes put into a buffer.
 pub mod Decimals
-pub mod Steps
-pub mod Lines
+pub mod Puts

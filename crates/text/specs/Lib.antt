@@ -1,3 +1,2 @@
--- Numbers as text: printing them, and reading a line of ten.
+-- Text in a buffer.
 pub mod Decimal
-pub mod Line

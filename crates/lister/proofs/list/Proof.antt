@@ -8,7 +8,7 @@ use Rattle.plan.proofs.Facts.{facts, planned-facts}
 use Rattle.plan.specs.declared.Job.{Job}
 use Rattle.plan.specs.declared.Planned.{Planned}
 use Rattle.plan.specs.Planning.{planned}
-use Rattle.text.specs.declared.Line.{Line}
+use Rattle.line.specs.declared.Line.{Line}
 use Rattle.lister.specs.Listing.{planText, refusedText, jobOf, told, listing}
 use native.Mathlib.Omega.{arith}
 use Rattle.lister.proofs.Room.{refused-room, plan-room}

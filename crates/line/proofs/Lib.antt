@@ -1,0 +1,3 @@
+-- Laws of reading a line: its steps, and that exactly the lines of ten numbers are read.
+pub mod Steps
+pub mod Lines

@@ -1,0 +1,2 @@
+-- Reading a line of ten numbers.
+pub mod Line

@@ -1,0 +1,2 @@
+-- Elements as signed whole numbers.
+pub mod Signed
