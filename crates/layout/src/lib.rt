@@ -2,7 +2,7 @@
 // The numbers of cuts and the group sizes are u8, so that every exponent fits a u32 and nothing has to be refused here.
 ghost use mathlib.Core.Path.{_≡_};
 ghost use Prim.Native.Nat.{_+_, _-_, _*_, _^_, _<_};
-ghost use Rattle.layout.specs.Exponents.{exponents, number, choice, term};
+ghost use Rattle.layout.specs.Exponents.{exponents, choice, term};
 ghost use Rattle.layout.specs.Strides.{Follows, Nested};
 
 // How the matrices are cut, m by p and p by n blocks, and the largest groups kept ignorant of A and of B.
@@ -45,16 +45,6 @@ struct Nest {
     outer_mask: u32,
     inner_mask: u32,
     needed: u32,
-}
-
-// The layout's number on the sheet.
-pub fn number_of(layout: Layout) -> u32
-    ensures { λ r. ⌜ r ≡ number layout ⌝ }
-{
-    match layout {
-        Layout::First => 1,
-        Layout::Second => 2,
-    }
 }
 
 // a - b, and 0 where b is more.

@@ -15,13 +15,13 @@ use Rattle.plan.specs.Planning.{planned}
 use Rattle.text.specs.Decimal.{put}
 use Rattle.line.specs.Line.{lineOf}
 use Rattle.lister.specs.Listing.{refusedText, jobOf, told, reply, listing}
-use Rattle.lister.specs.Writing.{Wrote}
-use Rattle.lister.proofs.Writes.{length-kept}
+use Rattle.lister.specs.Writing.{Writes}
 
-pub listed : {out text exit : List ℕ} {end : ℕ} (input : List ℕ) → text ≡ listing input → length text ≤ length out → Wrote out 0 text exit end
+pub listed : {out text exit : List ℕ} {end : ℕ} (input : List ℕ) → text ≡ listing input → length text ≤ length out → Writes out 0 text exit end
     → (end ≤ length exit) × ((end ≡ length (listing input)) × (exit ≡ put out 0 (listing input)))
 listed {out} {text} {exit} {end} input is room w =
-    (omega (arith, w .behind, length-kept w), (omega (arith, w .behind, ap length is), w .is ∙ ap (put out 0) is))
+    let fits : 0 + length text ≤ length out = omega arith in
+    (omega (arith, w .behind fits, w .kept), (omega (arith, w .behind fits, ap length is), w .is fits ∙ ap (put out 0) is))
 
 pub malformed : (input : List ℕ) → lineOf input .ok ≡ false → refusedText 26 ≡ listing input
 unfolding listing

@@ -1,10 +1,10 @@
 // The plan lister: reads a job's ten numbers as a line of text, and gives the text of its plan.
 ghost use mathlib.Core.Path.{_≡_};
 ghost use mathlib.Core.List.{_∷_, []};
-ghost use Prim.Native.Nat.{suc, _+_, _≤_};
+ghost use Prim.Native.Nat.{suc, _≤_};
 ghost use lib.ListN.{length};
 ghost use Rattle.algebra.specs.Lists.{tab};
-ghost use Rattle.layout.specs.Exponents.{exponents, term};
+ghost use Rattle.layout.specs.Exponents.{exponents, number, term};
 ghost use Rattle.plan.specs.Planning.{planned};
 ghost use Rattle.text.specs.Decimal.{put};
 ghost use Rattle.lister.specs.Listing.{
@@ -21,7 +21,7 @@ ghost use Rattle.lister.specs.Listing.{
   jobOf,
   listing,
 };
-ghost use Rattle.lister.specs.Writing.{Wrote, sideText};
+ghost use Rattle.lister.specs.Writing.{Writes, sideText};
 use layout::Layout;
 use layout::Parameters;
 use layout::Series;
@@ -39,10 +39,19 @@ struct Side {
     count: u8,
 }
 
+// The layout's number on the sheet.
+fn number_of(layout: Layout) -> u32
+    ensures { λ r. ⌜ r ≡ number layout ⌝ }
+{
+    match layout {
+        Layout::First => 1,
+        Layout::Second => 2,
+    }
+}
+
 // A space and the number.
 fn put_value(out: &mut [u8], at: usize, n: u32) -> usize
-    requires { ⌜ at + length (value n) ≤ length (now out) ⌝ }
-    ensures { λ r. ⌜ Wrote (now (out .entry)) at (value n) (now (out .exit)) r ⌝ }
+    ensures { λ r. ⌜ Writes (now (out .entry)) at (value n) (now (out .exit)) r ⌝ }
 {
     let next = text::put_bytes(out, at, b" ");
     text::put_decimal(out, next, n)
@@ -50,8 +59,7 @@ fn put_value(out: &mut [u8], at: usize, n: u32) -> usize
 
 // A label, one value, and the line's end.
 fn put_line(out: &mut [u8], at: usize, label: &[u8], n: u32) -> usize
-    requires { ⌜ at + length (line (now label) (n ∷ [])) ≤ length (now out) ⌝ }
-    ensures { λ r. ⌜ Wrote (now (out .entry)) at (line (now (label .entry)) (n ∷ [])) (now (out .exit)) r ⌝ }
+    ensures { λ r. ⌜ Writes (now (out .entry)) at (line (now (label .entry)) (n ∷ [])) (now (out .exit)) r ⌝ }
 {
     let a = text::put_bytes(out, at, label);
     let b = put_value(out, a, n);
@@ -68,8 +76,7 @@ fn put_row(
     i: u8,
     columns: u8,
 ) -> usize
-    requires { ⌜ at + length (values (tab (term (exponents layout g) series i) columns)) ≤ length (now out) ⌝ }
-    ensures { λ r. ⌜ Wrote (now (out .entry)) at (values (tab (term (exponents layout g) series i) columns)) (now (out .exit)) r ⌝ }
+    ensures { λ r. ⌜ Writes (now (out .entry)) at (values (tab (term (exponents layout g) series i) columns)) (now (out .exit)) r ⌝ }
 {
     let mut next = at;
     let mut j = 0;
@@ -90,8 +97,7 @@ fn put_grid(
     rows: u8,
     columns: u8,
 ) -> usize
-    requires { ⌜ at + length (values (grid (term (exponents layout g) series) rows columns)) ≤ length (now out) ⌝ }
-    ensures { λ r. ⌜ Wrote (now (out .entry)) at (values (grid (term (exponents layout g) series) rows columns)) (now (out .exit)) r ⌝ }
+    ensures { λ r. ⌜ Writes (now (out .entry)) at (values (grid (term (exponents layout g) series) rows columns)) (now (out .exit)) r ⌝ }
 {
     let mut next = at;
     let mut i = 0;
@@ -104,8 +110,7 @@ fn put_grid(
 
 // A side's line: the exponents of its blocks, a bar, and those of its masks.
 fn put_side(out: &mut [u8], at: usize, side: Side, layout: Layout, g: Parameters) -> usize
-    requires { ⌜ at + length (sideText side layout g) ≤ length (now out) ⌝ }
-    ensures { λ r. ⌜ Wrote (now (out .entry)) at (sideText side layout g) (now (out .exit)) r ⌝ }
+    ensures { λ r. ⌜ Writes (now (out .entry)) at (sideText side layout g) (now (out .exit)) r ⌝ }
 {
     let label = [side.label];
     let blocks = side.blocks;
@@ -119,8 +124,7 @@ fn put_side(out: &mut [u8], at: usize, side: Side, layout: Layout, g: Parameters
 
 // The line of C: the places of its blocks.
 fn put_places(out: &mut [u8], at: usize, layout: Layout, g: Parameters) -> usize
-    requires { ⌜ at + length (cLine layout g) ≤ length (now out) ⌝ }
-    ensures { λ r. ⌜ Wrote (now (out .entry)) at (cLine layout g) (now (out .exit)) r ⌝ }
+    ensures { λ r. ⌜ Writes (now (out .entry)) at (cLine layout g) (now (out .exit)) r ⌝ }
 {
     let a = text::put_bytes(out, at, b"C");
     let b = put_grid(out, a, Series::Places, layout, g, g.m, g.n);
@@ -129,21 +133,19 @@ fn put_places(out: &mut [u8], at: usize, layout: Layout, g: Parameters) -> usize
 
 // The lines of the prime, the layout, the hosts and the answers needed.
 fn put_numbers(out: &mut [u8], hosts: u32, plan: Plan) -> usize
-    requires { ⌜ length (numberLines hosts plan) ≤ length (now out) ⌝ }
-    ensures { λ r. ⌜ Wrote (now (out .entry)) 0 (numberLines hosts plan) (now (out .exit)) r ⌝ }
+    ensures { λ r. ⌜ Writes (now (out .entry)) 0 (numberLines hosts plan) (now (out .exit)) r ⌝ }
 {
     let modulus = plan.modulus;
     let layout = plan.layout;
     let a = put_line(out, 0, b"MODULUS", field::prime_of(modulus));
-    let b = put_line(out, a, b"LAYOUT", layout::number_of(layout));
+    let b = put_line(out, a, b"LAYOUT", number_of(layout));
     let c = put_line(out, b, b"HOSTS", hosts);
     put_line(out, c, b"NEEDED", plan.needed)
 }
 
 // The seven lines of a plan.
 fn put_plan(out: &mut [u8], hosts: u32, plan: Plan) -> usize
-    requires { ⌜ length (planText hosts plan) ≤ length (now out) ⌝ }
-    ensures { λ r. ⌜ Wrote (now (out .entry)) 0 (planText hosts plan) (now (out .exit)) r ⌝ }
+    ensures { λ r. ⌜ Writes (now (out .entry)) 0 (planText hosts plan) (now (out .exit)) r ⌝ }
 {
     let layout = plan.layout;
     let g = plan.parameters;
@@ -171,8 +173,7 @@ fn put_plan(out: &mut [u8], hosts: u32, plan: Plan) -> usize
 
 // The line of a refusal.
 fn put_refused(out: &mut [u8], n: u32) -> usize
-    requires { ⌜ length (refusedText n) ≤ length (now out) ⌝ }
-    ensures { λ r. ⌜ Wrote (now (out .entry)) 0 (refusedText n) (now (out .exit)) r ⌝ }
+    ensures { λ r. ⌜ Writes (now (out .entry)) 0 (refusedText n) (now (out .exit)) r ⌝ }
 {
     put_line(out, 0, b"REFUSED", n)
 }

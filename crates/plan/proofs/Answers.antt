@@ -7,10 +7,11 @@
 --   refused          the answer with a number
 --   layout-is, needed-is  the layout and K, from the parameters
 --   accepted         the answer without one
-use mathlib.Core.Path.{_≡_, sym, ap, ap₂, _∙_}
+--   plan-number      the number of an answer is that of the first test that holds
+use mathlib.Core.Path.{_≡_, refl, sym, ap, ap₂, _∙_}
 use mathlib.Core.Bool.{true, false}
 use mathlib.Core.List.{List, [], _∷_, _++_}
-use Prim.Native.Nat.{ℕ, _/_}
+use Prim.Native.Nat.{ℕ, zero, suc, _/_}
 use Rattle.refusal.specs.Chain.{first, answer}
 use Rattle.refusal.proofs.Chains.{first-hit, first-miss, first-append, first-append-hit, answer-done, answer-refused, numbered}
 use Rattle.field.specs.declared.Modulus.{Modulus}
@@ -22,7 +23,7 @@ use Rattle.layout.specs.Exponents.{exponents, choice}
 use Rattle.plan.specs.declared.Job.{Job}
 use Rattle.plan.specs.declared.Planned.{Planned}
 use Rattle.plan.specs.declared.Planned.the-variants.{Accepted, Refused}
-use Rattle.plan.specs.Planning.{parameters, prime, known, modulusOf, blockRows, blockInner, blockColumns, layoutOf, neededOf, planOf, rangeTests, fitTests, pointTests, planTests, planned}
+use Rattle.plan.specs.Planning.{parameters, prime, known, modulusOf, blockRows, blockInner, blockColumns, layoutOf, neededOf, planOf, rangeTests, fitTests, pointTests, planTests, planned, numberOf}
 
 module _ (job : Job) (points : List ℕ) where
   pub plan-modulus : noModulus (job .modulus) ≡ true → first (planTests job points) ≡ 1
@@ -70,3 +71,11 @@ unfolding planned planOf modulusOf blockRows blockInner blockColumns
 accepted job points m layout g needed is l same k e =
     ap Accepted (λ i. record { modulus = ap known (sym is) i; layout = l i; parameters = same i; rows = blockRows job; inner = blockInner job; columns = blockColumns job; needed = k i })
     ∙ sym (answer-done (Accepted (planOf job)) Refused (first (planTests job points)) e)
+
+pub plan-number : (job : Job) (points : List ℕ) → numberOf (planned job points) ≡ first (planTests job points)
+unfolding planned answer
+plan-number job points = go (first (planTests job points))
+  where
+    go : (n : ℕ) → numberOf (answer n (Accepted (planOf job)) Refused) ≡ n
+    go zero = refl
+    go (suc n) = refl

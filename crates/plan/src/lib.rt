@@ -24,7 +24,6 @@ use field::Modulus;
 use field::Named;
 use layout::Layout;
 use layout::Parameters;
-use refusal::any;
 use refusal::either;
 use refusal::outside;
 
@@ -77,9 +76,8 @@ const MOST_HOSTS: u32 = 64;
 fn size_test(job: Job) -> bool
     ensures { λ r. ⌜ r ≡ sizeTest job ⌝ }
 {
-    any(
-        outside(1, MOST_SIDE, job.t),
-        outside(1, MOST_SIDE, job.s),
+    either(
+        either(outside(1, MOST_SIDE, job.t), outside(1, MOST_SIDE, job.s)),
         outside(1, MOST_SIDE, job.r),
     )
 }
@@ -88,9 +86,8 @@ fn size_test(job: Job) -> bool
 fn cut_test(job: Job) -> bool
     ensures { λ r. ⌜ r ≡ cutTest job ⌝ }
 {
-    any(
-        outside(1, MOST_CUTS, job.m),
-        outside(1, MOST_CUTS, job.p),
+    either(
+        either(outside(1, MOST_CUTS, job.m), outside(1, MOST_CUTS, job.p)),
         outside(1, MOST_CUTS, job.n),
     )
 }
@@ -126,7 +123,10 @@ fn division_test(job: Job) -> bool
     requires { ⌜ first (rangeTests job) ≡ 0 ⌝ }
     ensures { λ r. ⌜ r ≡ divisionTest job ⌝ }
 {
-    any(job.t % job.m != 0, job.s % job.p != 0, job.r % job.n != 0)
+    either(
+        either(job.t % job.m != 0, job.s % job.p != 0),
+        job.r % job.n != 0,
+    )
 }
 
 // A block is too large.
@@ -137,9 +137,11 @@ fn block_test(job: Job) -> bool
     let rows = job.t / job.m;
     let inner = job.s / job.p;
     let columns = job.r / job.n;
-    any(
-        MOST_ELEMENTS < rows * inner,
-        MOST_ELEMENTS < inner * columns,
+    either(
+        either(
+            MOST_ELEMENTS < rows * inner,
+            MOST_ELEMENTS < inner * columns,
+        ),
         MOST_ELEMENTS < rows * columns,
     )
 }

@@ -44,16 +44,3 @@ pub fn either(a: bool, b: bool) -> bool
 {
     if a { true } else { b }
 }
-
-// One of three tests holds.
-pub fn any(a: bool, b: bool, c: bool) -> bool
-    ensures { λ r. ⌜ r ≡ (a || b || c) ⌝ }
-{
-    if a {
-        true
-    } else if b {
-        true
-    } else {
-        c
-    }
-}

@@ -21,7 +21,7 @@ read-line-requires : tie.Need-read-line-requires
 read-line-requires c κs = search needs
 
 put-refused-requires : tie.Need-put-refused-requires
-put-refused-requires c κs = omega (arith, refused-room 26 (omega arith))
+put-refused-requires c κs = search needs
 
 returns : tie.Need-returns
 returns c =
@@ -46,7 +46,7 @@ plan-text c =
     rw (p .1) (plan-room job (facts job (tab suc (job .hosts)) (p .0) .fits))
 
 put-plan-requires : tie.Need-put-plan-requires
-put-plan-requires c κs = omega (arith, plan-text (c .before .before))
+put-plan-requires c κs = search needs
 
 enum-known-n : tie.Need-enum-known-n
 enum-known-n c = search needs
@@ -55,7 +55,7 @@ refused-text : (c : tie.After-known-told2) → length (refusedText (c .before .n
 refused-text c = refused-room (c .before .n .given .0 .0) (omega arith)
 
 put-refused-requires-2 : tie.Need-put-refused-requires-2
-put-refused-requires-2 c κs = omega (arith, refused-text (c .before))
+put-refused-requires-2 c κs = search needs
 
 -- what planning answers is what is printed
 reply-is : (c : tie.After-plan-of) {answer : Planned} → c .plan-of .result ≡ answer → told (c .before .job-of .result .hosts) answer ≡ listing (c .before .before .before .before .before .before .before .args .input .now)

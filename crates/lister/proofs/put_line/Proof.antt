@@ -1,10 +1,7 @@
 -- `lister::put_line` meets its contract.
-use Prim.Native.Nat.{_+_, _≤_}
-use lib.ListN.{length}
-use Rattle.lister.specs.Writing.{Wrote}
-use mathlib.Core.List.{_++_}
-use Rattle.lister.specs.Listing.{ascii, value}
-use Rattle.lister.proofs.Writes.{wrote, wrote-then, front, rest, line-one}
+use mathlib.Core.Path.{sym}
+use Rattle.lister.specs.Listing.{ascii}
+use Rattle.lister.proofs.Writes.{writes, then, same, line-one}
 use borrow.Author.Needs.{needs}
 use Rattle.lister.proofs.put_line.Statement.{statement}
 use Rattle.lister.proofs.put_line.Tie as tie
@@ -12,21 +9,8 @@ use Rattle.lister.proofs.put_line.Tie as tie
 put-bytes-requires : tie.Need-put-bytes-requires
 put-bytes-requires c κs = search needs
 
--- the label is written, and what is left has room
-label-room : (c : tie.Start) → c .args .at + length (c .args .label .now ++ (value (c .args .n) ++ ascii "\n")) ≤ length (c .args .out .now)
-label-room c = rw line-one at (c .pre)
-
-label : (c : tie.After-put-bytes) → Wrote (c .before .before .before .before .args .out .now) (c .before .before .before .before .args .at) (c .before .before .before .before .args .label .now) (c .put-bytes .last .0) (c .put-bytes .result)
-label c =
-    let e = c .before .before .before .before in
-    wrote (e .args .out .now) (e .args .at) (e .args .label .now) (c .put-bytes .last .0) (c .put-bytes .result)
-    (front (e .args .label .now) (value (e .args .n) ++ ascii "\n") (e .args .at) (label-room e)) (c .put-bytes .ensures .0) (c .put-bytes .ensures .1)
-
-value-room : (c : tie.After-put-bytes) → c .put-bytes .result + length (value (c .before .before .before .before .args .n) ++ ascii "\n") ≤ length (c .put-bytes .last .0)
-value-room c = rest (c .before .before .before .before .args .label .now) (value (c .before .before .before .before .args .n) ++ ascii "\n") (label-room (c .before .before .before .before)) (label c)
-
 put-value-requires : tie.Need-put-value-requires
-put-value-requires c κs = front (value (c .before .before .before .before .before .before .before .args .n)) (ascii "\n") (c .before .before .before .put-bytes .result) (value-room (c .before .before .before))
+put-value-requires c κs = search needs
 
 slice-aggregate-put-bytes : tie.Need-slice-aggregate-put-bytes
 slice-aggregate-put-bytes c = search needs
@@ -40,14 +24,12 @@ same-length c = search needs
 returns : tie.Need-returns
 returns c =
     let e = c .before .before .before .before .before .before .before .before .before .before .before .before .before .before .before in
-    let first = c .before .before .before .before .before .before .before .before .before .before .before in
-    let second = c .before .before .before .before .before .before .before .put-value in
-    let third = c .before .before .put-bytes2 in
-    rw line-one
-    (wrote-then (label-room e) (label first)
-    (wrote-then (value-room first) (second .ensures)
-    (wrote (second .last .0) (second .result) (ascii "\n") (third .last .0) (third .result)
-    (rest (value (e .args .n)) (ascii "\n") (value-room first) (second .ensures)) (third .ensures .0) (third .ensures .1))))
+    let label = c .before .before .before .before .before .before .before .before .before .before .before .put-bytes in
+    let value = c .before .before .before .before .before .before .before .put-value in
+    let end = c .before .before .put-bytes2 in
+    same (sym (line-one (e .args .label .now) (e .args .n)))
+    (then (writes (e .args .out .now) (e .args .at) (e .args .label .now) (label .ensures))
+    (then (value .ensures) (writes (value .last .0) (value .result) (ascii "\n") (end .ensures))))
 
 pub put-line-spec : {M : Type 1} → statement M
 put-line-spec =

@@ -1,5 +1,4 @@
 -- `lister::put_refused` meets its contract.
-use native.Mathlib.Omega.{arith}
 use Rattle.lister.specs.Listing.{refusedText}
 use borrow.Author.Needs.{needs}
 use Rattle.lister.proofs.put_refused.Statement.{statement}
@@ -9,8 +8,7 @@ slice-aggregate-put-line : tie.Need-slice-aggregate-put-line
 slice-aggregate-put-line c = search needs
 
 put-line-requires : tie.Need-put-line-requires
-unfolding refusedText
-put-line-requires c κs = omega (arith, c .before .before .before .pre)
+put-line-requires c κs = search needs
 
 same-length : tie.Need-same-length
 same-length c = search needs

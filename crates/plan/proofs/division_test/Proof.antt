@@ -6,21 +6,26 @@ use borrow.Author.Needs.{needs}
 use Rattle.plan.proofs.division_test.Statement.{statement}
 use Rattle.plan.proofs.division_test.Tie as tie
 
-rem-any : tie.Need-rem-any
-rem-any c = let h = ranged _ (c .before .pre) in omega arith
+rem-either : tie.Need-rem-either
+rem-either c = let h = ranged _ (c .before .pre) in omega arith
 
-rem-any-2 : tie.Need-rem-any-2
-rem-any-2 c = let h = ranged _ (c .before .before .pre) in omega arith
+rem-either-2 : tie.Need-rem-either-2
+rem-either-2 c = let h = ranged _ (c .before .before .pre) in omega arith
 
-rem-any-3 : tie.Need-rem-any-3
-rem-any-3 c = let h = ranged _ (c .before .before .before .pre) in omega arith
+either-requires : tie.Need-either-requires
+either-requires c κs = search needs
 
-any-requires : tie.Need-any-requires
-any-requires c κs = search needs
+rem-either-3 : tie.Need-rem-either-3
+rem-either-3 c = let h = ranged _ (c .before .before .before .before .pre) in omega arith
+
+either-requires-2 : tie.Need-either-requires-2
+either-requires-2 c κs = search needs
 
 returns : tie.Need-returns
 unfolding divisionTest
-returns c = c .any .ensures
+returns c = rw (c .either2 .ensures, c .before .before .either .ensures)
 
 pub division-test-spec : {M : Type 1} → statement M
-division-test-spec = tie.close (tie.spec rem-any rem-any-2 rem-any-3 any-requires returns)
+division-test-spec =
+    tie.close
+    (tie.spec rem-either rem-either-2 either-requires rem-either-3 either-requires-2 returns)

@@ -10,17 +10,26 @@ outside-requires c κs = search needs
 outside-requires-2 : tie.Need-outside-requires-2
 outside-requires-2 c κs = search needs
 
+either-requires : tie.Need-either-requires
+either-requires c κs = search needs
+
 outside-requires-3 : tie.Need-outside-requires-3
 outside-requires-3 c κs = search needs
 
-any-requires : tie.Need-any-requires
-any-requires c κs = search needs
+either-requires-2 : tie.Need-either-requires-2
+either-requires-2 c κs = search needs
 
 returns : tie.Need-returns
 unfolding sizeTest
-returns c = rw (c .any .ensures, c .before .outside3 .ensures, c .before .before .outside2 .ensures, c .before .before .before .outside .ensures)
+returns c = rw (c .either2 .ensures, c .before .outside3 .ensures, c .before .before .either .ensures, c .before .before .before .outside2 .ensures, c .before .before .before .before .outside .ensures)
 
 pub size-test-spec : {M : Type 1} → statement M
 size-test-spec =
     tie.close
-    (tie.spec outside-requires outside-requires-2 outside-requires-3 any-requires returns)
+    (tie.spec
+    outside-requires
+    outside-requires-2
+    either-requires
+    outside-requires-3
+    either-requires-2
+    returns)
