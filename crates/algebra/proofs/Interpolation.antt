@@ -3,25 +3,26 @@
 --   basis-own basis-other    the basis polynomial of x is ≈ 1 at x, and ≈ 0 at each other point
 --   interpolates             the polynomial with the coefficients of `coefficient` takes the values ys at xs
 --   recover                  the coefficients of a polynomial, from its values at as many points
-use mathlib.Core.Path.{_≡_, refl, sym, ap, ap₂, _∙_, subst}
+use mathlib.Core.Path.{_≡_, refl, sym, ap, _∙_}
 use mathlib.Core.Bool.{Bool, true, false, cond}
 use mathlib.Core.Logic.{⊎-elim}
 use mathlib.Core.List.{List, [], _∷_}
-use Prim.Native.Nat.{ℕ, zero, suc, _+_, _-_, _*_, _%_, _^_, _<_, _≤_}
-use native.Mathlib.Nat.{not-suc-le-zero, suc-inj, mul-one, mod-mod}
+use Prim.Native.Nat.{ℕ, zero, suc, _+_, _-_, _*_, _%_, _<_, _≤_}
+use native.Mathlib.Nat.{not-suc-le-zero}
 use native.Mathlib.Omega.{arith}
 use lib.Dec.{eqb}
-use lib.ListN.{length, getD}
-use borrow.Author.Tests.{eqb-true, eqb-false, eq-eqb, ne-eqb}
+use lib.ListN.{length, getD, List·getD-eq-default}
+use borrow.Author.Tests.{eqb-true, eqb-false}
 use Rattle.algebra.specs.Lists.{tab, AllBelow, Distinct}
 use Rattle.algebra.specs.Sums.{sum}
 use Rattle.algebra.specs.Modular.{⟨_⟩_≈_, Prime, inverse}
 use Rattle.algebra.specs.Polynomials.{ev, scale, add, addRoot, basis, coefficient}
-use Rattle.algebra.proofs.Orders.{eq-or-ne}
-use Rattle.algebra.proofs.Modular.{≈-refl, ≈-sym, ≈-add, ≈-trans, ≈-of-eq, ≈-by, ≈-mod, ≈-scale, ≈-mul, ≈-multiple, ≈-exact}
+use Rattle.algebra.proofs.Orders.{le-or-lt}
+use Rattle.algebra.proofs.Lists.{length-tab, getD-tab}
+use Rattle.algebra.proofs.Modular.{≈-sym, ≈-trans, ≈-of-eq, ≈-by, ≈-mod, ≈-scale, ≈-mul, ≈-multiple, ≈-exact}
 use Rattle.algebra.proofs.Inverses.{inverse-right}
-use Rattle.algebra.proofs.Sums.{sum-cong, sum-≈, sum-single, sum-mul}
-use Rattle.algebra.proofs.Polynomials.{ev-scale, ev-add, ev-addRoot, getD-scale, getD-add, length-scale, length-add, length-addRoot, Apart, same-values}
+use Rattle.algebra.proofs.Sums.{sum-cong, sum-single}
+use Rattle.algebra.proofs.Polynomials.{ev-cong, ev-scale, ev-add, ev-addRoot, getD-scale, getD-add, length-scale, length-add, length-addRoot, Apart, same-values}
 
 -- ---- Lagrange's basis
 
@@ -166,6 +167,24 @@ module _ {q : ℕ} (prime : Prime q) (xs ys : List ℕ) (below : AllBelow q xs) 
       (sym (total-getD term (length xs) e
       ∙ sum-cong (length xs) (λ i. getD (term i) e 0) (λ i. getD ys i 0 * getD (basis q (getD xs i 0) xs) e 0)
       (λ i h. getD-scale (getD ys i 0) (basis q (getD xs i 0) xs) e)))
+
+  -- past the last coefficient both are 0
+  coefficients : (e : ℕ) → ⟨ q ⟩ getD (tab (coefficient q xs ys) (length xs)) e 0 ≈ getD through e 0
+  coefficients e = ⊎-elim past within (le-or-lt (length xs) e)
+    where
+      past : length xs ≤ e → ⟨ q ⟩ getD (tab (coefficient q xs ys) (length xs)) e 0 ≈ getD through e 0
+      past h =
+          let none : getD (tab (coefficient q xs ys) (length xs)) e 0 ≡ 0 =
+          List·getD-eq-default (tab (coefficient q xs ys) (length xs)) 0 {n = e} (omega (arith, length-tab (coefficient q xs ys) (length xs))) in
+          let none′ : getD through e 0 ≡ 0 = List·getD-eq-default through 0 {n = e} (omega (arith, through-length)) in
+          ≈-of-eq (none ∙ sym none′)
+
+      within : e < length xs → ⟨ q ⟩ getD (tab (coefficient q xs ys) (length xs)) e 0 ≈ getD through e 0
+      within h = ≈-trans (≈-of-eq (getD-tab (coefficient q xs ys) (length xs) e 0 h ∙ through-coefficient e)) (≈-mod (getD through e 0))
+
+  pub interpolates : (k : ℕ) → k < length xs → ⟨ q ⟩ ev (tab (coefficient q xs ys) (length xs)) (getD xs k 0) ≈ getD ys k 0
+  interpolates k h =
+      ≈-trans (ev-cong (tab (coefficient q xs ys) (length xs)) through (getD xs k 0) coefficients) (through-at k h)
 
   pub recover : (cs : List ℕ) → length cs ≤ length xs → ((k : ℕ) → k < length xs → ⟨ q ⟩ getD ys k 0 ≈ ev cs (getD xs k 0))
       → (e : ℕ) → coefficient q xs ys e ≡ getD cs e 0 % q

@@ -9,14 +9,14 @@
 --   cancel-difference  x * a ≈ r * a with x not ≈ r: then a ≈ 0
 use mathlib.Core.Path.{_≡_, refl, sym, ap, _∙_, subst}
 use mathlib.Core.Bool.{Bool, true, false, cond}
-use mathlib.Core.Logic.{_⊎_, inl, inr, ⊎-elim}
+use mathlib.Core.Logic.{⊎-elim}
 use Prim.Native.Nat.{ℕ, zero, suc, _+_, _-_, _*_, _/_, _%_, _<_, _≤_}
 use native.Mathlib.Nat.{div-add-mod, mod-lt, mod-eq-of-lt, zero-mod, not-suc-le-zero, mul-zero}
 use native.Mathlib.Omega.{arith}
 use lib.Dec.{T, eqb, eqb→eq, eqb-refl}
 use Rattle.algebra.specs.Modular.{⟨_⟩_≈_, Prime, last, inverse}
 use Rattle.algebra.proofs.Orders.{le-or-lt, eq-or-ne}
-use Rattle.algebra.proofs.Modular.{≈-refl, ≈-sym, ≈-trans, ≈-mod, ≈-by, ≈-add, ≈-scale, ≈-mul, ≈-multiple, ≈-exact, ≈-of-eq}
+use Rattle.algebra.proofs.Modular.{≈-sym, ≈-trans, ≈-mod, ≈-by, ≈-add, ≈-scale, ≈-mul, ≈-multiple, ≈-exact, ≈-of-eq}
 
 -- ---- the last number that passes a test
 

@@ -4,8 +4,7 @@
 --   take-tab                  the first elements of a tabulated list
 --   fill-none, fill-more, fill-all  a list that is filled from the front becomes a tabulated one
 --   all-below                 what the test `allBelow` tells
-use mathlib.Core.Path.{_≡_, refl, sym, ap, _∙_, subst}
-use mathlib.Core.Bool.{Bool, true, false, _&&_}
+use mathlib.Core.Path.{_≡_, refl, sym, ap, _∙_}
 use mathlib.Core.Logic.{⊎-elim}
 use mathlib.Core.List.{List, [], _∷_, _++_}
 use Prim.Native.Nat.{ℕ, zero, suc, _+_, _<_, _≤_}

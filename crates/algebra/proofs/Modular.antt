@@ -7,7 +7,7 @@
 --   ≈-multiple              a multiple of q is ≈ 0
 --   ≈-exact                 two numbers below q that are ≈ are equal
 use mathlib.Core.Path.{_≡_, refl, sym, ap, _∙_}
-use Prim.Native.Nat.{ℕ, _+_, _-_, _*_, _/_, _%_, _<_, _≤_}
+use Prim.Native.Nat.{ℕ, _+_, _*_, _/_, _%_, _<_}
 use native.Mathlib.Nat.{mod-mod, mod-eq-of-lt, add-mul-mod-self-left, div-add-mod, mul-mod-right, zero-mod}
 use native.Mathlib.Omega.{arith}
 use Rattle.algebra.specs.Modular.{⟨_⟩_≈_}

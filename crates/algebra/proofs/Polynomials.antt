@@ -4,13 +4,13 @@
 --   getD-scale getD-add              coefficients
 --   length-scale length-add ..       lengths
 --   ev-tab                           a value as a sum over coefficients
+--   ev-cong                          congruent coefficients give congruent values
 --   roots                            n coefficients with n roots that differ modulo q are all ≈ 0
 --   same-values                      two lists of n coefficients with the same values at n such points
-use mathlib.Core.Path.{_≡_, refl, sym, ap, ap₂, _∙_, subst}
-use mathlib.Core.Logic.{⊎-elim}
-use mathlib.Core.List.{List, [], _∷_, _++_, map}
-use Prim.Native.Nat.{ℕ, zero, suc, _+_, _-_, _*_, _^_, _<_, _≤_, max}
-use native.Mathlib.Nat.{not-suc-le-zero, mul-zero, pow-zero, pow-suc, suc-inj, le-of-suc-le-suc, mul-one}
+use mathlib.Core.Path.{_≡_, refl, sym, ap, _∙_}
+use mathlib.Core.List.{List, [], _∷_, _++_}
+use Prim.Native.Nat.{ℕ, zero, suc, _+_, _-_, _*_, _^_, _<_, _≤_}
+use native.Mathlib.Nat.{not-suc-le-zero, mul-zero, pow-zero, pow-suc, suc-inj, le-of-suc-le-suc}
 use native.Mathlib.Omega.{arith}
 use lib.ListN.{length, getD}
 use Rattle.algebra.specs.Lists.{tab}
@@ -18,7 +18,7 @@ use Rattle.algebra.specs.Sums.{sum}
 use Rattle.algebra.specs.Modular.{⟨_⟩_≈_, Prime}
 use Rattle.algebra.specs.Polynomials.{ev, scale, add, addRoot}
 use Rattle.algebra.proofs.Lists.{length-tab}
-use Rattle.algebra.proofs.Modular.{≈-refl, ≈-sym, ≈-add, ≈-trans, ≈-of-eq, ≈-by, ≈-scale, ≈-mul, ≈-multiple}
+use Rattle.algebra.proofs.Modular.{≈-refl, ≈-sym, ≈-add, ≈-trans, ≈-of-eq, ≈-by, ≈-scale, ≈-multiple}
 use Rattle.algebra.proofs.Inverses.{cancel-difference}
 
 pub ev-scale : (c : ℕ) (cs : List ℕ) (x : ℕ) → ev (scale c cs) x ≡ c * ev cs x
@@ -117,6 +117,18 @@ module _ {q : ℕ} where
   quotient-zeros r [] z e = z e
   quotient-zeros r (c ∷ cs) z zero = constant r c cs (z 0) (quotient-head r cs (λ e. z (suc e)))
   quotient-zeros r (c ∷ cs) z (suc e) = quotient-zeros r cs (λ d. z (suc d)) e
+
+  ev-zeros : (cs : List ℕ) (x : ℕ) → Zeros q cs → ⟨ q ⟩ ev cs x ≈ 0
+  unfolding ev
+  ev-zeros [] x z = ≈-refl 0
+  ev-zeros (c ∷ cs) x z = ≈-by (≈-add (z 0) (≈-scale x (ev-zeros cs x (λ e. z (suc e))))) (omega arith)
+
+  pub ev-cong : (cs ds : List ℕ) (x : ℕ) → ((e : ℕ) → ⟨ q ⟩ getD cs e 0 ≈ getD ds e 0) → ⟨ q ⟩ ev cs x ≈ ev ds x
+  unfolding ev
+  ev-cong [] [] x h = ≈-refl 0
+  ev-cong [] (d ∷ ds) x h = ≈-sym (ev-zeros (d ∷ ds) x (λ e. ≈-sym (h e)))
+  ev-cong (c ∷ cs) [] x h = ev-zeros (c ∷ cs) x h
+  ev-cong (c ∷ cs) (d ∷ ds) x h = ≈-add (h 0) (≈-scale x (ev-cong cs ds x (λ e. h (suc e))))
 
 module _ {q : ℕ} (prime : Prime q) where
   -- a root of c ∷ cs other than r is a root of its quotient by (X - r)

@@ -7,7 +7,7 @@
 --   sum-swap               the order of two sums
 use mathlib.Core.Path.{_≡_, refl, sym, ap, ap₂, _∙_}
 use mathlib.Core.Logic.{⊎-elim}
-use Prim.Native.Nat.{ℕ, zero, suc, _+_, _*_, _<_, _≤_}
+use Prim.Native.Nat.{ℕ, zero, suc, _+_, _*_, _<_}
 use native.Mathlib.Nat.{not-suc-le-zero, mul-zero, mul-add, lt-suc-self}
 use native.Mathlib.Omega.{arith}
 use Rattle.algebra.specs.Sums.{sum}

@@ -5,7 +5,7 @@
 --   last test n == the last number below n that passes the test, and 0 where none does
 --   inverse q a == the number below q whose product with a leaves 1, and 0 where there is none
 use mathlib.Core.Path.{_≡_}
-use mathlib.Core.Bool.{Bool, true, false, cond}
+use mathlib.Core.Bool.{Bool, cond}
 use Prim.Native.Nat.{ℕ, zero, suc, _*_, _%_, _<_}
 use lib.Dec.{eqb}
 

@@ -7,7 +7,7 @@
 --   basis q x ys           == Lagrange's basis polynomial of x: the product of (X - y) / (x - y) over the y of ys other than x
 --   coefficient q xs ys e  == the coefficient at e, modulo q, of the polynomial through the points (x, y) of xs and ys:
 --                             the sum of y times the basis polynomial of x
-use mathlib.Core.Bool.{Bool, true, false, cond}
+use mathlib.Core.Bool.{cond}
 use mathlib.Core.List.{List, [], _∷_, map}
 use Prim.Native.Nat.{ℕ, _+_, _-_, _*_, _%_}
 use lib.Dec.{eqb}

@@ -4,14 +4,14 @@
 --   euclid-start    q and a
 --   euclid-step     the next remainder
 --   euclid-end      past the last remainder stands the inverse
-use mathlib.Core.Path.{_≡_, refl, sym, ap, _∙_, subst}
+use mathlib.Core.Path.{_≡_, sym, ap, subst}
 use mathlib.Core.Logic.{⊎-elim}
-use Prim.Native.Nat.{ℕ, zero, _+_, _-_, _*_, _/_, _%_, _<_, _≤_, _∣_}
+use Prim.Native.Nat.{ℕ, _+_, _-_, _*_, _/_, _%_, _<_, _≤_, _∣_}
 use native.Mathlib.Nat.{mod-lt, div-add-mod, dvd-zero, dvd-refl, dvd-add, dvd-mul-right-of-dvd, le-of-dvd, mod-eq-zero-of-dvd, mul-zero, mul-one}
 use native.Mathlib.Omega.{arith}
 use Rattle.algebra.specs.Modular.{⟨_⟩_≈_, Prime, inverse}
 use Rattle.algebra.proofs.Orders.{le-or-lt}
-use Rattle.algebra.proofs.Modular.{≈-refl, ≈-sym, ≈-trans, ≈-mod, ≈-add, ≈-mul, ≈-scale, ≈-multiple, ≈-by, ≈-of-eq}
+use Rattle.algebra.proofs.Modular.{≈-sym, ≈-trans, ≈-mod, ≈-add, ≈-scale, ≈-multiple, ≈-by, ≈-of-eq}
 use Rattle.algebra.proofs.Inverses.{inverse-unique}
 
 pub record Euclid (q a last next last-factor next-factor : ℕ) : Type 0 where

@@ -7,7 +7,7 @@
 --   threshold        K is one more than the largest sum
 use mathlib.Core.Path.{_≡_, refl, sym, ap, _∙_}
 use mathlib.Core.Logic.{⊎-elim}
-use Prim.Native.Nat.{ℕ, zero, suc, _+_, _-_, _*_, _/_, _%_, _<_, _≤_}
+use Prim.Native.Nat.{ℕ, suc, _+_, _-_, _*_, _/_, _%_, _<_, _≤_}
 use native.Mathlib.Nat.{mul-le-mul-right}
 use native.Mathlib.Omega.{arith}
 use lib.Arith.{digits-div, digits-mod}
@@ -15,7 +15,7 @@ use Rattle.algebra.proofs.Orders.{le-or-lt}
 use Rattle.layout.specs.declared.Parameters.{Parameters}
 use Rattle.layout.specs.declared.Layout.{Layout}
 use Rattle.layout.specs.declared.Layout.the-variants.{First, Second}
-use Rattle.layout.specs.Exponents.{Exponents, exponents, layout1, layout2, strideD, strideE}
+use Rattle.layout.specs.Exponents.{exponents, layout1, layout2, strideD, strideE}
 use Rattle.layout.specs.Sound.{Cut, Sound, Threshold}
 
 digits : (d a b u v : ℕ) → u < d → v < d → a * d + u ≡ b * d + v → (a ≡ b) × (u ≡ v)

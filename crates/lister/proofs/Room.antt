@@ -4,7 +4,7 @@
 --   term-small                 the exponents and places of an accepted job are below K, which is at most 64
 --   refused-room               the line of a refusal
 --   plan-room                  the text of an accepted plan
-use mathlib.Core.Path.{_≡_, refl, sym, ap, _∙_, subst}
+use mathlib.Core.Path.{_≡_, ap}
 use mathlib.Core.List.{List, [], _∷_, _++_}
 use Prim.Native.Nat.{ℕ, zero, suc, _+_, _*_, _^_, _<_, _≤_}
 use native.Mathlib.Nat.{mul-le-mul}

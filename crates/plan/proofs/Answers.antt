@@ -10,7 +10,7 @@
 --   plan-number      the number of an answer is that of the first test that holds
 use mathlib.Core.Path.{_≡_, refl, sym, ap, ap₂, _∙_}
 use mathlib.Core.Bool.{true, false}
-use mathlib.Core.List.{List, [], _∷_, _++_}
+use mathlib.Core.List.{List, _++_}
 use Prim.Native.Nat.{ℕ, zero, suc, _/_}
 use Rattle.refusal.specs.Chain.{first, answer}
 use Rattle.refusal.proofs.Chains.{first-hit, first-miss, first-append, first-append-hit, answer-done, answer-refused, numbered}
@@ -21,7 +21,6 @@ use Rattle.layout.specs.declared.Parameters.{Parameters}
 use Rattle.layout.specs.declared.Layout.{Layout}
 use Rattle.layout.specs.Exponents.{exponents, choice}
 use Rattle.plan.specs.declared.Job.{Job}
-use Rattle.plan.specs.declared.Planned.{Planned}
 use Rattle.plan.specs.declared.Planned.the-variants.{Accepted, Refused}
 use Rattle.plan.specs.Planning.{parameters, prime, known, modulusOf, blockRows, blockInner, blockColumns, layoutOf, neededOf, planOf, rangeTests, fitTests, pointTests, planTests, planned, numberOf}
 

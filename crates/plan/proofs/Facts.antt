@@ -4,21 +4,21 @@
 --   facts               they hold where no plan number fits
 --   planned-facts       planning answers without a refusal: no plan number fits
 --   points-unseen       with over 64 hosts the points play no part
-use mathlib.Core.Path.{_≡_, refl, sym, ap, _∙_, subst}
-use mathlib.Core.Bool.{Bool, true, false, not, _||_, true≢false}
+use mathlib.Core.Path.{_≡_, refl, sym, ap, _∙_}
+use mathlib.Core.Bool.{false, not, _||_, true≢false}
 use mathlib.Core.Logic.{⊎-elim}
-use mathlib.Core.List.{List, [], _∷_, _++_, append-assoc}
-use Prim.Native.Nat.{ℕ, zero, suc, _+_, _*_, _%_, _<_, _≤_}
+use mathlib.Core.List.{List, _∷_, _++_, append-assoc}
+use Prim.Native.Nat.{ℕ, zero, suc, _*_, _%_, _<_, _≤_}
 use native.Mathlib.Nat.{suc-ne-zero, not-suc-le-zero, eq-or-lt-of-le, le-of-suc-le-suc}
 use native.Mathlib.Omega.{arith}
-use lib.Dec.{T, eqb, ltb, leb}
+use lib.Dec.{eqb, ltb, leb}
 use lib.ListN.{length, getD, take}
-use borrow.Author.Tests.{ltb-false, leb-false, eqb-true, eqb-false, not-false, lt-ltb}
+use borrow.Author.Tests.{ltb-false, leb-false, eqb-true, eqb-false, not-false}
 use Rattle.algebra.specs.Lists.{AllBelow, Distinct}
-use Rattle.algebra.proofs.Orders.{le-or-lt, eq-or-ne}
+use Rattle.algebra.proofs.Orders.{le-or-lt}
 use Rattle.algebra.proofs.Tests.{or-left, or-right}
 use Rattle.refusal.specs.Chain.{Row, first, answer, outside}
-use Rattle.refusal.proofs.Chains.{first-hit, first-miss, first-clear, first-append-clear, first-append-hit, numbered, answer-refused, inside-low, inside-high}
+use Rattle.refusal.proofs.Chains.{first-clear, first-append-clear, first-append-hit, numbered, inside-low, inside-high}
 use Rattle.field.specs.Modulus.{noModulus}
 use Rattle.field.proofs.Moduli.{Known, known-number}
 use Rattle.plan.specs.declared.Job.{Job}

@@ -6,9 +6,9 @@
 --   stop-point                  they pass up to i, and one of i tells a number
 --   length-differs, length-same the test of the points' number
 use mathlib.Core.Path.{_≡_, refl, sym, ap, _∙_, subst}
-use mathlib.Core.Bool.{Bool, true, false, not, _||_, _&&_}
+use mathlib.Core.Bool.{Bool, true, false, not, _||_}
 use mathlib.Core.Logic.{⊎-elim}
-use mathlib.Core.List.{List, [], _∷_, _++_}
+use mathlib.Core.List.{List, [], _∷_}
 use Prim.Native.Nat.{ℕ, zero, suc, _+_, _≤_, _<_}
 use native.Mathlib.Nat.{not-suc-le-zero, le-of-suc-le-suc, eq-or-lt-of-le, suc-ne-zero}
 use native.Mathlib.Numerals.{add-one}
@@ -16,7 +16,7 @@ use native.Mathlib.Omega.{arith}
 use lib.Dec.{T, eqb}
 use lib.ListN.{length, getD, take}
 use borrow.Author.Tests.{eq-eqb, ne-eqb}
-use Rattle.refusal.specs.Chain.{Row, first}
+use Rattle.refusal.specs.Chain.{first}
 use Rattle.refusal.proofs.Chains.{first-hit, first-miss, numbered, numbered-append, first-append, first-append-hit}
 use Rattle.plan.specs.Planning.{member, pointRows, pointsRows, pointTests}
 

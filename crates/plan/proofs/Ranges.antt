@@ -3,8 +3,7 @@
 --   Ranged job    each number is in its range
 --   ranged        it is where the tests 2 to 4 pass
 use mathlib.Core.Path.{_≡_}
-use mathlib.Core.Bool.{Bool, false, _||_}
-use mathlib.Core.List.{[], _∷_}
+use mathlib.Core.Bool.{false, _||_}
 use Prim.Native.Nat.{ℕ, _≤_}
 use Rattle.algebra.proofs.Tests.{or-left, or-right}
 use Rattle.refusal.specs.Chain.{first, outside}

@@ -14,7 +14,7 @@
 --   planOf               == the plan of an accepted job
 --   planned              == what planning answers
 --   numberOf             == the number that an answer of planning stands for: 0 is done
-use mathlib.Core.Bool.{Bool, true, false, not, _||_, _&&_}
+use mathlib.Core.Bool.{Bool, false, not, _||_}
 use mathlib.Core.List.{List, [], _∷_, _++_}
 use Prim.Native.Nat.{ℕ, zero, suc, _*_, _/_, _%_}
 use lib.Dec.{leb, ltb, eqb}

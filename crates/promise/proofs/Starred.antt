@@ -3,13 +3,12 @@
 --   same xs ys       two lists are equal, as a test
 --   right lines      every line's two lists are
 --   starred-right    the table is right
-use mathlib.Core.Path.{_≡_, refl, ap, ap₂}
+use mathlib.Core.Path.{_≡_, refl, ap₂}
 use mathlib.Core.Bool.{Bool, true, false, _&&_}
 use mathlib.Core.List.{List, [], _∷_}
-use Prim.Native.Nat.{ℕ, zero, suc, _<_}
+use Prim.Native.Nat.{ℕ, zero, suc}
 use native.Mathlib.Nat.{not-suc-le-zero, le-of-suc-le-suc}
 use lib.Dec.{T, eqb, eqb→eq}
-use lib.ListN.{length, getD}
 use Rattle.algebra.proofs.Tests.{and-left, and-right}
 use Rattle.algebra.specs.Lists.{tab}
 use Rattle.refusal.specs.Chain.{first, answer, outside}

@@ -10,10 +10,10 @@
 --   first-append-hit         the first list tells a number already
 --   answer-refused, answer-done  an answer by its number
 --   inside-low, inside-high  what a number in its range tells
-use mathlib.Core.Path.{_≡_, refl, sym, ap, _∙_, subst}
+use mathlib.Core.Path.{_≡_, refl, sym, ap, subst}
 use mathlib.Core.Bool.{Bool, true, false, not, cond, _&&_}
 use mathlib.Core.List.{List, [], _∷_, _++_}
-use Prim.Native.Nat.{ℕ, zero, suc, _≤_, _<_}
+use Prim.Native.Nat.{ℕ, zero, suc, _≤_}
 use native.Mathlib.Nat.{suc-ne-zero}
 use lib.Dec.{T, eqb, ltb, T-not, eqb-refl}
 use borrow.Author.Tests.{ltb-false}

@@ -15,8 +15,7 @@
 use mathlib.Core.Path.{_≡_, refl, sym, ap, ap₂, _∙_, subst}
 use mathlib.Core.Bool.{Bool, true, false, not, cond, _&&_, and-false, true≢false}
 use mathlib.Core.Logic.{⊎-elim}
-use Prim.Native.Nat.{ℕ, zero, suc, _+_, _-_, _*_, _%_, _^_, _<_, _≤_}
-use native.Mathlib.Nat.{mod-lt}
+use Prim.Native.Nat.{ℕ, zero, suc, _+_, _-_, _^_, _<_, _≤_}
 use native.Mathlib.Omega.{arith}
 use lib.Dec.{T, leb, ltb, leb·zero}
 use lib.IntN.{ℤ, pos, negsuc, negℤ, natAbs, _+ℤ_, _-ℤ_, +ℤ-idl}
@@ -25,7 +24,7 @@ use mir.Syntax.{w32, w64}
 use mir.Val.{Fits, SFits, toZ}
 use mir.Facts.{toZ-pos, fits-lit, fits-sub, fits-div, fits-mod}
 use borrow.Author.Tests.{lt-ltb, le-ltb, le-leb, lt-leb}
-use Rattle.algebra.proofs.Orders.{le-or-lt, mul-lt}
+use Rattle.algebra.proofs.Orders.{le-or-lt}
 use Rattle.signed.specs.Signed.{half, inRange, element}
 use Rattle.signed.proofs.Readings.{minus, in-neg}
 

@@ -1,6 +1,5 @@
 -- `plan::point_refusal` meets its contract.
 use mathlib.Core.Path.{_∙_}
-use mathlib.Core.List.{[], _∷_}
 use lib.ListN.{getD}
 use Rattle.refusal.proofs.Chains.{first-none, first-hit, first-miss}
 use Prim.Native.Nat.{_-_, _≤_}
