@@ -4,14 +4,16 @@
 --   less-one                    one row less
 --   follows-first               layout 1 has A outside
 --   follows-second              layout 2 has B outside
+--   first-chosen, second-chosen the choice, by the two numbers of answers needed
 use mathlib.Core.Path.{_≡_, refl, sym, ap, _∙_}
 use Prim.Native.Nat.{ℕ, zero, suc, _+_, _-_, _*_, _^_, _<_, _≤_}
 use native.Mathlib.Nat.{mul-le-mul}
 use native.Mathlib.Omega.{arith}
+use borrow.Author.Tests.{le-leb, lt-leb}
 use Rattle.layout.specs.declared.Parameters.{Parameters}
 use Rattle.layout.specs.declared.Nest.{Nest}
 use Rattle.layout.specs.declared.Layout.the-variants.{First, Second}
-use Rattle.layout.specs.Exponents.{exponents, layout1, layout2, strideD, strideE}
+use Rattle.layout.specs.Exponents.{exponents, layout1, layout2, strideD, strideE, better, choice}
 use Rattle.layout.specs.Strides.{Follows, Nested}
 
 pub small-stride : (i p x : ℕ) → i < 2 ^ 8 → p < 2 ^ 8 → x < 2 ^ 8 → i * p + x < 2 ^ 16
@@ -67,3 +69,12 @@ module _ (g : Parameters) (s : Nest) where
     small-maskA = omega (arith, h .inner-mask, h .stride, h .small);
     small-maskB = h .small-outer;
   }
+
+module _ (g : Parameters) {a b : ℕ} (first : a ≡ exponents First g .needed) (second : b ≡ exponents Second g .needed) where
+  pub first-chosen : a ≤ b → First ≡ choice g
+  unfolding choice better
+  first-chosen h = rw (← first, ← second, le-leb a b h)
+
+  pub second-chosen : b < a → Second ≡ choice g
+  unfolding choice better
+  second-chosen h = rw (← first, ← second, lt-leb a b h)

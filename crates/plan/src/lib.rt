@@ -2,13 +2,12 @@
 ghost use mathlib.Core.Path.{_≡_};
 ghost use Prim.Native.Nat.{_≤_};
 ghost use lib.ListN.{length, take};
-ghost use Rattle.refusal.specs.Chain.{first};
+ghost use mathlib.Core.Bool.{_||_};
+ghost use Rattle.refusal.specs.Chain.{first, outside};
 ghost use Rattle.plan.specs.Planning.{
   parameters,
   prime,
   neededOf,
-  sizeTest,
-  cutTest,
   groupTest,
   divisionTest,
   blockTest,
@@ -72,23 +71,13 @@ const MOST_ELEMENTS: u32 = 4096;
 
 const MOST_HOSTS: u32 = 64;
 
-// t, s or r is out of range.
-fn size_test(job: Job) -> bool
-    ensures { λ r. ⌜ r ≡ sizeTest job ⌝ }
+// One of three numbers is not 1 to most.
+fn any_outside(most: u32, x: u32, y: u32, z: u32) -> bool
+    ensures { λ r. ⌜ r ≡ (outside 1 most x || outside 1 most y || outside 1 most z) ⌝ }
 {
     either(
-        either(outside(1, MOST_SIDE, job.t), outside(1, MOST_SIDE, job.s)),
-        outside(1, MOST_SIDE, job.r),
-    )
-}
-
-// m, p or n is out of range.
-fn cut_test(job: Job) -> bool
-    ensures { λ r. ⌜ r ≡ cutTest job ⌝ }
-{
-    either(
-        either(outside(1, MOST_CUTS, job.m), outside(1, MOST_CUTS, job.p)),
-        outside(1, MOST_CUTS, job.n),
+        either(outside(1, most, x), outside(1, most, y)),
+        outside(1, most, z),
     )
 }
 
@@ -106,10 +95,10 @@ fn group_test(job: Job) -> bool
 fn range_refusal(job: Job) -> u32
     ensures { λ r. ⌜ r ≡ first (rangeTests job) ⌝ }
 {
-    if size_test(job) {
+    if any_outside(MOST_SIDE, job.t, job.s, job.r) {
         return refusal::SIZE;
     }
-    if cut_test(job) {
+    if any_outside(MOST_CUTS, job.m, job.p, job.n) {
         return refusal::CUTS;
     }
     if group_test(job) {

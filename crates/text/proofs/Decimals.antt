@@ -8,7 +8,6 @@
 --   value v bytes                   the number of some digits after the digits of v
 --   decimal-value                   the digits of a number of 32 bits are those of that number
 --   decimal-leads                   the first digit of a number above 0 is no 0
---   decimal-zero, decimal-most      the digits of 0 and of the largest number of 32 bits, computed
 --   Digits                          the last digits of n, from place `start` + 1 on, and the rest of n
 --   digits-start, digits-more       none of them, and one more
 --   digits-room                     there is a place for one more
@@ -126,14 +125,6 @@ spell-leads (suc k) n pos h =
 pub decimal-leads : (n : ℕ) → 0 < n → n < 2 ^ 32 → 48 < getD (decimal n) 0 0
 unfolding decimal
 decimal-leads n pos h = spell-leads 9 n pos (omega arith)
-
-pub decimal-zero : decimal 0 ≡ 48 ∷ []
-unfolding decimal spell digit
-decimal-zero = refl
-
-pub decimal-most : decimal 4294967295 ≡ 52 ∷ 50 ∷ 57 ∷ 52 ∷ 57 ∷ 54 ∷ 55 ∷ 50 ∷ 57 ∷ 53 ∷ []
-unfolding decimal spell digit
-decimal-most = refl
 
 pub record Digits (n : ℕ) (digits : List ℕ) (start rest : ℕ) : Type 0 where
   pub whole : length digits ≡ 10

@@ -3,7 +3,7 @@
 --   put-fits, after-fits    the bytes fit
 --   put-over, after-over    they do not
 --   length-put              a buffer keeps its length
---   put-put, after-after    some bytes, and others after them, where all fit
+--   put-put                 some bytes, and others after them, where all fit
 use mathlib.Core.Path.{_≡_, sym, ap, _∙_}
 use mathlib.Core.Logic.{⊎-elim}
 use mathlib.Core.List.{List, _++_, append-assoc}
@@ -57,13 +57,6 @@ module _ (buffer : List ℕ) (at : ℕ) (xs ys : List ℕ) (room : at + length x
       sym (drop-drop (length ys) (at + length xs) first)
       ∙ ap (drop (length ys)) (drop-paste buffer at xs (length xs) (omega arith) (le-refl (length xs)))
       ∙ drop-drop (length ys) (at + length xs) buffer
-
-  pub after-after : after (after at xs buffer) ys (put buffer at xs) ≡ after at (xs ++ ys) buffer
-  after-after =
-      ap (λ (k : ℕ). after k ys (put buffer at xs)) (after-fits buffer at xs (omega arith))
-      ∙ after-fits (put buffer at xs) (at + length xs) ys (omega (arith, length-put buffer at xs))
-      ∙ both
-      ∙ sym (after-fits buffer at (xs ++ ys) (omega (arith, length-append xs ys)))
 
   pub put-put : put (put buffer at xs) (after at xs buffer) ys ≡ put buffer at (xs ++ ys)
   unfolding first

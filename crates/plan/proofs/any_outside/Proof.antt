@@ -1,8 +1,7 @@
--- `plan::cut_test` meets its contract.
-use Rattle.plan.specs.Planning.{cutTest}
+-- `plan::any_outside` meets its contract.
 use borrow.Author.Needs.{needs}
-use Rattle.plan.proofs.cut_test.Statement.{statement}
-use Rattle.plan.proofs.cut_test.Tie as tie
+use Rattle.plan.proofs.any_outside.Statement.{statement}
+use Rattle.plan.proofs.any_outside.Tie as tie
 
 outside-requires : tie.Need-outside-requires
 outside-requires c κs = search needs
@@ -20,11 +19,10 @@ either-requires-2 : tie.Need-either-requires-2
 either-requires-2 c κs = search needs
 
 returns : tie.Need-returns
-unfolding cutTest
 returns c = rw (c .either2 .ensures, c .before .outside3 .ensures, c .before .before .either .ensures, c .before .before .before .outside2 .ensures, c .before .before .before .before .outside .ensures)
 
-pub cut-test-spec : {M : Type 1} → statement M
-cut-test-spec =
+pub any-outside-spec : {M : Type 1} → statement M
+any-outside-spec =
     tie.close
     (tie.spec
     outside-requires
