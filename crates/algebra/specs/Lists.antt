@@ -1,19 +1,28 @@
--- Lists by index.
+-- Lists by index, and matrices as lists, row by row.
 --
 --   tab f n       == f 0, f 1, .., f (n - 1)
+--   grid f rows columns   == f row by row
+--   entry columns xs i j  == the element at row i and column j of a matrix with that many columns
 --   AllBelow q xs == each element of xs is below q
 --   allBelow q xs == the same as a test
 --   Distinct xs   == no two places of xs hold the same number
 use mathlib.Core.Path.{_≡_}
 use mathlib.Core.Bool.{Bool, true, _&&_}
 use mathlib.Core.List.{List, [], _∷_, _++_}
-use Prim.Native.Nat.{ℕ, zero, suc, _<_}
+use Prim.Native.Nat.{ℕ, zero, suc, _+_, _*_, _<_}
 use lib.Dec.{ltb}
 use lib.ListN.{length, getD}
 
 unfoldable pub tab {ℓ} : {A : Type ℓ} → (ℕ → A) → ℕ → List A
 tab f zero = []
 tab f (suc n) = tab f n ++ (f n ∷ [])
+
+unfoldable pub grid : (ℕ → ℕ → ℕ) → ℕ → ℕ → List ℕ
+grid f zero columns = []
+grid f (suc rows) columns = grid f rows columns ++ tab (f rows) columns
+
+unfoldable pub entry : ℕ → List ℕ → ℕ → ℕ → ℕ
+entry columns xs i j = getD xs (i * columns + j) 0
 
 abbrev pub AllBelow : ℕ → List ℕ → Type 0
 AllBelow q xs = (i : ℕ) → i < length xs → getD xs i 0 < q

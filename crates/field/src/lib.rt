@@ -25,7 +25,7 @@ pub fn modulus_named(number: u32) -> Named
         1 => Named::Is(Modulus::Q13),
         2 => Named::Is(Modulus::Q257),
         3 => Named::Is(Modulus::Q65537),
-        _ => Named::Unknown,
+        0 | 4..=0xFFFF_FFFF => Named::Unknown,
     }
 }
 
@@ -40,12 +40,22 @@ pub fn prime_of(modulus: Modulus) -> u32
     }
 }
 
+// A number modulo the prime: each remainder is by a constant.
+pub fn reduce(modulus: Modulus, n: u64) -> u32
+    ensures { λ r. ⌜ r ≡ n % prime modulus ⌝ }
+{
+    match modulus {
+        Modulus::Q13 => (n % 13) as u32,
+        Modulus::Q257 => (n % 257) as u32,
+        Modulus::Q65537 => (n % 65537) as u32,
+    }
+}
+
 // The product of two numbers, modulo the prime.
 pub fn multiply(modulus: Modulus, a: u32, b: u32) -> u32
     ensures { λ r. ⌜ r ≡ a * b % prime modulus ⌝ }
 {
-    let q = prime_of(modulus) as u64;
-    (a as u64 * b as u64 % q) as u32
+    reduce(modulus, a as u64 * b as u64)
 }
 
 // x to the exponent, modulo the prime, by halving the exponent.

@@ -10,7 +10,7 @@ use Prim.Native.Nat.{ℕ, zero, suc, _+_, _*_, _^_, _<_, _≤_}
 use native.Mathlib.Nat.{mul-le-mul}
 use native.Mathlib.Omega.{arith}
 use lib.ListN.{length, length-append}
-use Rattle.algebra.specs.Lists.{tab}
+use Rattle.algebra.specs.Lists.{tab, grid}
 use Rattle.field.specs.Modulus.{prime}
 use Rattle.field.proofs.Moduli.{prime-small}
 use Rattle.layout.specs.declared.Parameters.{Parameters}
@@ -25,7 +25,7 @@ use Rattle.plan.specs.Planning.{parameters, modulusOf, layoutOf, neededOf, plan
 use Rattle.plan.proofs.Facts.{Fits}
 use Rattle.text.specs.Decimal.{decimal}
 use Rattle.text.proofs.Decimals.{decimal-length, decimal-short}
-use Rattle.lister.specs.Listing.{ascii, value, values, line, sideLine, grid, numberLines, aLine, bLine, cLine, planText, refusedText}
+use Rattle.lister.specs.Listing.{ascii, value, values, line, sideLine, numberLines, aLine, bLine, cLine, planText, refusedText}
 use Rattle.lister.proofs.Writes.{row-more, grid-more, line-one}
 
 value-length : (n : ℕ) → n < 100000 → length (value n) ≤ 6

@@ -12,10 +12,10 @@ use Prim.Native.Nat.{ℕ, suc, _+_, _≤_}
 use native.Mathlib.Omega.{arith}
 use lib.ListN.{length, length-append}
 use lib.Seq.{paste-zero}
-use Rattle.algebra.specs.Lists.{tab}
+use Rattle.algebra.specs.Lists.{tab, grid}
 use Rattle.text.specs.Decimal.{put, after}
 use Rattle.text.proofs.Puts.{put-fits, after-fits, length-put, put-put}
-use Rattle.lister.specs.Listing.{ascii, value, values, line, grid}
+use Rattle.lister.specs.Listing.{ascii, value, values, line}
 use Rattle.lister.specs.Writing.{Writes}
 
 pub writes : (out : List ℕ) (at : ℕ) (text : List ℕ) {exit : List ℕ} {end : ℕ} → (end ≡ after at text out) × (exit ≡ put out at text)

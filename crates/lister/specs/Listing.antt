@@ -6,7 +6,6 @@
 --   sideLine             == a side's line: the exponents of its blocks, a bar, then those of its masks
 --   numberLines          == the lines of q, layout, N and K
 --   aLine, bLine, cLine  == the lines of A, of B and of C
---   grid f rows columns  == f row by row
 --   planText hosts plan  == the seven lines of a plan
 --   refusedText n        == the line of a refusal
 --   jobOf ns             == the job of the ten numbers of a line
@@ -15,11 +14,11 @@
 --   listing input        == what is printed for an input: 26 comes before all others
 use mathlib.Core.Bool.{cond}
 use mathlib.Core.List.{List, [], _∷_, _++_}
-use Prim.Native.Nat.{ℕ, zero, suc}
+use Prim.Native.Nat.{ℕ, suc}
 use Prim.Native.Char.{code}
 use Prim.Native.String.{String}
 use lib.ListN.{getD}
-use Rattle.algebra.specs.Lists.{tab}
+use Rattle.algebra.specs.Lists.{tab, grid}
 use Rattle.field.specs.Modulus.{prime}
 use Rattle.layout.specs.declared.Parameters.{Parameters}
 use Rattle.layout.specs.declared.Layout.{Layout}
@@ -49,10 +48,6 @@ line label ns = label ++ (values ns ++ ascii "\n")
 
 unfoldable pub sideLine : List ℕ → List ℕ → List ℕ → List ℕ
 sideLine label blocks masks = label ++ (values blocks ++ (ascii " |" ++ (values masks ++ ascii "\n")))
-
-unfoldable pub grid : (ℕ → ℕ → ℕ) → ℕ → ℕ → List ℕ
-grid f zero columns = []
-grid f (suc rows) columns = grid f rows columns ++ tab (f rows) columns
 
 -- q; layout; N; K
 unfoldable pub numberLines : ℕ → Plan → List ℕ

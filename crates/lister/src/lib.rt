@@ -3,7 +3,7 @@ ghost use mathlib.Core.Path.{_≡_};
 ghost use mathlib.Core.List.{_∷_, []};
 ghost use Prim.Native.Nat.{suc, _≤_};
 ghost use lib.ListN.{length};
-ghost use Rattle.algebra.specs.Lists.{tab};
+ghost use Rattle.algebra.specs.Lists.{tab, grid};
 ghost use Rattle.layout.specs.Exponents.{exponents, number, term};
 ghost use Rattle.plan.specs.Planning.{planned};
 ghost use Rattle.text.specs.Decimal.{put};
@@ -13,7 +13,6 @@ ghost use Rattle.lister.specs.Listing.{
   values,
   line,
   sideLine,
-  grid,
   numberLines,
   cLine,
   planText,

@@ -25,7 +25,23 @@ pub const POINT: u32 = 10;
 
 pub const REPEATED_POINT: u32 = 11;
 
+pub const HOST: u32 = 12;
+
+pub const LENGTH: u32 = 13;
+
 pub const ELEMENT: u32 = 14;
+
+pub const MASK: u32 = 15;
+
+pub const KIND: u32 = 16;
+
+pub const SHORT: u32 = 17;
+
+pub const MARK: u32 = 18;
+
+pub const VERSION: u32 = 19;
+
+pub const MESSAGE_LENGTH: u32 = 20;
 
 pub const SIGNED: u32 = 25;
 

@@ -18,8 +18,13 @@ unfolding named
 returns-3 c = sym (ap named (c .match .keys3))
 
 returns-4 : tie.Need-returns-4
-returns-4 c =
-    named-unknown (c .before .args .number) (c .match .rest .0 .0 .1) (c .match .rest .0 .1) (c .match .rest .1)
+unfolding named
+returns-4 c = sym (ap named (c .match .keys4))
+
+returns-5 : tie.Need-returns-5
+returns-5 c =
+    let others = c .match .rest .0 in
+    named-unknown (c .before .args .number) (others .0 .0 .1) (others .0 .1) (others .1)
 
 pub modulus-named-spec : {M : Type 1} → statement M
-modulus-named-spec = tie.close (tie.spec returns returns-2 returns-3 returns-4)
+modulus-named-spec = tie.close (tie.spec returns returns-2 returns-3 returns-4 returns-5)

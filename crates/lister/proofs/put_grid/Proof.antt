@@ -4,7 +4,8 @@ use Prim.Native.Nat.{_-_, _≤_}
 use native.Mathlib.Numerals.{add-one}
 use native.Mathlib.Omega.{arith}
 use Rattle.layout.specs.Exponents.{exponents, term}
-use Rattle.lister.specs.Listing.{values, grid}
+use Rattle.algebra.specs.Lists.{grid}
+use Rattle.lister.specs.Listing.{values}
 use Rattle.lister.specs.Writing.{Writes}
 use Rattle.lister.proofs.Writes.{writes-nothing, then, grid-more}
 use Rattle.lister.proofs.put_grid.Statement.{statement}
