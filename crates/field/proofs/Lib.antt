@@ -1,5 +1,4 @@
--- Laws of the moduli, of powers, of Euclid's remainders, and of what fits a word.
+-- Laws of the moduli, of powers and of Euclid's remainders.
 pub mod Moduli
 pub mod Powers
 pub mod Euclid
-pub mod Words

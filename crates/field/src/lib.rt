@@ -55,7 +55,7 @@ pub fn reduce(modulus: Modulus, n: u64) -> u32
 pub fn multiply(modulus: Modulus, a: u32, b: u32) -> u32
     ensures { λ r. ⌜ r ≡ a * b % prime modulus ⌝ }
 {
-    reduce(modulus, a as u64 * b as u64)
+    reduce(modulus, words::wide_product(a, b))
 }
 
 // x to the exponent, modulo the prime, by halving the exponent.

@@ -1,0 +1,2 @@
+-- What fits a word.
+pub mod Fits
