@@ -3,8 +3,12 @@
 --   length-tab, getD-tab      a tabulated list has its length and its elements
 --   take-tab                  the first elements of a tabulated list
 --   fill-none, fill-more, fill-all  a list that is filled from the front becomes a tabulated one
+--   front-none, front-more    a list whose first elements become tabulated ones, and the rest stays
 --   all-below                 what the test `allBelow` tells
+--   below-none, below-more, below-all  the test, element by element
+--   below-stop                one element that is not below
 use mathlib.Core.Path.{_≡_, refl, sym, ap, _∙_}
+use mathlib.Core.Bool.{Bool, true, false, _&&_}
 use mathlib.Core.Logic.{⊎-elim}
 use mathlib.Core.List.{List, [], _∷_, _++_}
 use Prim.Native.Nat.{ℕ, zero, suc, _+_, _<_, _≤_}
@@ -12,10 +16,11 @@ use native.Mathlib.Nat.{not-suc-le-zero, le-of-suc-le-suc, eq-or-lt-of-le}
 use native.Mathlib.Numerals.{add-one}
 use native.Mathlib.Omega.{arith}
 use lib.Dec.{T, ltb, ltb→lt}
-use lib.ListN.{length, getD, take, set, length-append, List·getD-append}
-use lib.Seq.{getD-at, take-all, take-append-le, take-suc-set}
+use lib.ListN.{length, getD, take, drop, set, length-append, List·getD-append}
+use lib.Seq.{getD-at, set-at, drop-cons, append-snoc, take-all, take-append-le, take-suc, take-suc-set}
 use Rattle.algebra.specs.Lists.{tab, AllBelow, allBelow}
-use Rattle.algebra.proofs.Tests.{and-left, and-right}
+use borrow.Author.Tests.{lt-ltb}
+use Rattle.algebra.proofs.Tests.{by-test, and-left, and-right}
 
 module _ {ℓ} {A : Type ℓ} (f : ℕ → A) where
   pub length-tab : (n : ℕ) → length (tab f n) ≡ n
@@ -50,8 +55,46 @@ module _ {ℓ} {A : Type ℓ} (f : ℕ → A) where
   pub fill-all : (xs : List A) (n : ℕ) → length xs ≡ n → take n xs ≡ tab f n → xs ≡ tab f n
   fill-all xs n h e = sym (take-all n xs (omega arith)) ∙ e
 
+  pub front-none : (xs : List A) → xs ≡ tab f 0 ++ drop 0 xs
+  unfolding tab
+  front-none xs = refl
+
+  pub front-more : (xs ys : List A) (i : ℕ) → i < length xs → ys ≡ tab f i ++ drop i xs → set ys i (f i) ≡ tab f (i + 1) ++ drop (i + 1) xs
+  unfolding tab
+  front-more xs ys i h e =
+      let n = length-tab i in
+      rw add-one
+      (ap (λ (l : List A). set l i (f i)) (e ∙ ap (λ (l : List A). tab f i ++ l) (drop-cons xs i (f i) h))
+      ∙ set-at (tab f i) (getD xs i (f i)) (drop (suc i) xs) (f i) i n
+      ∙ sym (append-snoc (tab f i) (f i) (drop (suc i) xs)))
+
 pub all-below : (q : ℕ) (xs : List ℕ) → T (allBelow q xs) → AllBelow q xs
 unfolding allBelow
 all-below q [] t i h = absurd (not-suc-le-zero h)
 all-below q (x ∷ xs) t zero h = ltb→lt x q (and-left (ltb x q) (allBelow q xs) t)
 all-below q (x ∷ xs) t (suc i) h = all-below q xs (and-right (ltb x q) (allBelow q xs) t) i (le-of-suc-le-suc h)
+
+pub below-none : (q : ℕ) (xs : List ℕ) → allBelow q (take 0 xs) ≡ true
+unfolding allBelow
+below-none q xs = refl
+
+below-one : (q : ℕ) (xs : List ℕ) (x : ℕ) → allBelow q xs ≡ true → x < q → allBelow q (xs ++ (x ∷ [])) ≡ true
+unfolding allBelow
+below-one q [] x t h = ap (λ (b : Bool). b && true) (lt-ltb x q h)
+below-one q (y ∷ xs) x t h = go (ltb y q) t (below-one q xs x)
+  where
+    go : (b : Bool) → (b && allBelow q xs) ≡ true → (allBelow q xs ≡ true → x < q → allBelow q (xs ++ (x ∷ [])) ≡ true)
+        → (b && allBelow q (xs ++ (x ∷ []))) ≡ true
+    go true t ih = ih t h
+    go false t ih = t
+
+pub below-more : (q : ℕ) (xs : List ℕ) (i : ℕ) → i < length xs → allBelow q (take i xs) ≡ true → getD xs i 0 < q
+    → allBelow q (take (i + 1) xs) ≡ true
+below-more q xs i h t b = rw (add-one, take-suc xs i 0 h) (below-one q (take i xs) (getD xs i 0) t b)
+
+pub below-all : (q : ℕ) (xs : List ℕ) (n : ℕ) → length xs ≤ n → allBelow q (take n xs) ≡ true → allBelow q xs ≡ true
+below-all q xs n h t = ap (allBelow q) (sym (take-all n xs h)) ∙ t
+
+pub below-stop : (q : ℕ) (xs : List ℕ) (i : ℕ) → i < length xs → q ≤ getD xs i 0 → allBelow q xs ≡ false
+below-stop q xs i h l =
+    ⊎-elim (λ (t : allBelow q xs ≡ true). let b : getD xs i 0 < q = all-below q xs (rw t tt) i h in absurd (let no : ⊥ = omega arith in no)) (λ f. f) (by-test (allBelow q xs))

@@ -1,0 +1,3 @@
+-- Laws of elements and their bytes.
+pub mod Words
+pub mod Bytes

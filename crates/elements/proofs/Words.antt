@@ -1,0 +1,81 @@
+-- Numbers of one, two and four bytes, and elements.
+--
+--   number-of-one, number-of-two, number-of-four    as `words` reads them
+--   length-elements, element-at                     the elements of bytes, one by one
+--   write-four                                      one more element is written as its four bytes
+use mathlib.Core.Path.{_≡_, sym, ap, ap₂, _∙_}
+use mathlib.Core.List.{List, [], _∷_, _++_, append-nil}
+use Prim.Native.Nat.{ℕ, suc, _+_, _*_, _/_, _%_, _<_, _≤_}
+use native.Mathlib.Nat.{add-zero}
+use native.Mathlib.Numerals.{add-one}
+use native.Mathlib.Omega.{arith}
+use lib.ListN.{length, getD, take, drop, set}
+use lib.Seq.{take-suc, take-at, drop-drop, drop-append-add, length-take-le, sets-eq}
+use Rattle.algebra.proofs.Lists.{length-tab, getD-tab}
+use Rattle.elements.specs.Bytes.{bigEndian, numberAt, bytesOf, elementsOf}
+use Rattle.elements.proofs.Bytes.{length-bytesOf, bytesOf-append}
+
+module _ (bytes : List ℕ) (at : ℕ) where
+  pub number-of-one : numberAt bytes at 1 ≡ getD bytes at 0
+  unfolding numberAt
+  number-of-one = omega (arith, ap (λ (k : ℕ). getD bytes k 0) (add-zero at))
+
+  pub number-of-two : numberAt bytes at 2 ≡ getD bytes at 0 * 256 + getD bytes (at + 1) 0
+  unfolding numberAt
+  number-of-two = omega (arith, number-of-one)
+
+  pub number-of-four : numberAt bytes at 4
+      ≡ ((getD bytes at 0 * 256 + getD bytes (at + 1) 0) * 256 + getD bytes (at + 2) 0) * 256 + getD bytes (at + 3) 0
+  unfolding numberAt
+  number-of-four = omega (arith, number-of-two)
+
+pub length-elements : (n : ℕ) (bytes : List ℕ) → length (elementsOf n bytes) ≡ n
+unfolding elementsOf
+length-elements n bytes = length-tab (λ (i : ℕ). numberAt bytes (i * 4) 4) n
+
+pub element-at : (n : ℕ) (bytes : List ℕ) (i : ℕ) → i < n → getD (elementsOf n bytes) i 0
+    ≡ ((getD bytes (i * 4) 0 * 256 + getD bytes (i * 4 + 1) 0) * 256 + getD bytes (i * 4 + 2) 0) * 256 + getD bytes (i * 4 + 3) 0
+unfolding elementsOf
+element-at n bytes i h = getD-tab (λ (k : ℕ). numberAt bytes (k * 4) 4) n i 0 h ∙ number-of-four bytes (i * 4)
+
+bytes-of-four : (x : ℕ) → bigEndian 4 x ≡ x / 16777216 % 256 ∷ x / 65536 % 256 ∷ x / 256 % 256 ∷ x % 256 ∷ []
+unfolding bigEndian
+bytes-of-four x =
+    let third : x / 256 / 256 ≡ x / 65536 = omega arith in
+    let fourth : x / 256 / 256 / 256 ≡ x / 16777216 = omega arith in
+    ap₂ (λ (a b : ℕ). a % 256 ∷ b % 256 ∷ x / 256 % 256 ∷ x % 256 ∷ []) fourth third
+
+bytes-more : (xs : List ℕ) (i : ℕ) → i < length xs → bytesOf (take (i + 1) xs) ≡ bytesOf (take i xs) ++ bigEndian 4 (getD xs i 0)
+unfolding bytesOf
+bytes-more xs i h =
+    rw (add-one, take-suc xs i 0 h)
+    (bytesOf-append (take i xs) (getD xs i 0 ∷ []) ∙ ap (λ (l : List ℕ). bytesOf (take i xs) ++ l) (append-nil (bigEndian 4 (getD xs i 0))))
+
+stores : (out : List ℕ) (at a b c d : ℕ) → at + 4 ≤ length out
+    → set (set (set (set out at a) (at + 1) b) (at + 2) c) (at + 3) d ≡ take at out ++ (a ∷ b ∷ c ∷ d ∷ []) ++ drop (at + 4) out
+stores out at a b c d h =
+    let one : at + 1 ≡ suc at = omega arith in
+    let two : at + 2 ≡ suc (suc at) = omega arith in
+    let three : at + 3 ≡ suc (suc (suc at)) = omega arith in
+    rw (one, two, three) (sets-eq (a ∷ b ∷ c ∷ d ∷ []) out at h)
+
+module _ (xs rest out : List ℕ) (i : ℕ) (is : out ≡ bytesOf (take i xs) ++ drop (i * 4) rest) where
+  pub write-four : i < length xs → length out ≡ length rest → i * 4 + 4 ≤ length rest
+      → set (set (set (set out (i * 4) (getD xs i 0 / 16777216 % 256)) (i * 4 + 1) (getD xs i 0 / 65536 % 256)) (i * 4 + 2) (getD xs i 0 / 256 % 256)) (i * 4 + 3) (getD xs i 0 % 256)
+      ≡ bytesOf (take (i + 1) xs) ++ drop ((i + 1) * 4) rest
+  write-four h same room =
+      let x = getD xs i 0 in
+      let n : length (bytesOf (take i xs)) ≡ i * 4 = omega (arith, length-bytesOf (take i xs), length-take-le i xs (omega arith)) in
+      let front : take (i * 4) out ≡ bytesOf (take i xs) = ap (take (i * 4)) is ∙ take-at (bytesOf (take i xs)) _ _ n in
+      let seam : i * 4 + 4 ≡ length (bytesOf (take i xs)) + 4 = omega arith in
+      let end : i * 4 + 4 ≡ (i + 1) * 4 = omega arith in
+      let back : drop (i * 4 + 4) out ≡ drop ((i + 1) * 4) rest
+      = ap₂ drop seam is
+      ∙ drop-append-add (bytesOf (take i xs)) (drop (i * 4) rest) 4
+      ∙ drop-drop 4 (i * 4) rest
+      ∙ ap (λ (k : ℕ). drop k rest) end in
+      let more : bytesOf (take i xs) ++ (x / 16777216 % 256 ∷ x / 65536 % 256 ∷ x / 256 % 256 ∷ x % 256 ∷ []) ≡ bytesOf (take (i + 1) xs)
+      = ap (λ (l : List ℕ). bytesOf (take i xs) ++ l) (sym (bytes-of-four x)) ∙ sym (bytes-more xs i h) in
+      stores out (i * 4) _ _ _ _ (omega arith)
+      ∙ ap₂ (λ (l r : List ℕ). l ++ (x / 16777216 % 256 ∷ x / 65536 % 256 ∷ x / 256 % 256 ∷ x % 256 ∷ []) ++ r) front back
+      ∙ ap (λ (l : List ℕ). l ++ drop ((i + 1) * 4) rest) more

@@ -1,0 +1,2 @@
+-- Elements as bytes.
+pub mod Bytes
