@@ -6,6 +6,7 @@
 //!   random        a small deterministic generator with a fixed seed
 //!   cases         the file format of cases and answers
 //!   plan          the tests of a plan, both layouts, the recovery threshold K, the choice
+//!   draw          random plans
 //!   plan_check    the plan against brute force and against the values checked by hand
 //!   lister        the plan lister's text in and out
 //!   lister_plans  lister cases that are well-formed: accepted plans and near misses
@@ -13,6 +14,7 @@
 //!   lister_cases  the subcommand `lister`: all its cases, checked and written
 
 mod cases;
+mod draw;
 mod lister;
 mod lister_cases;
 mod lister_plans;
