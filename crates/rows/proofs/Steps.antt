@@ -4,6 +4,7 @@
 --   length-up-to              as many as before
 --   up-to-none, up-to-more    no row, and one more
 --   up-to-all                 every row
+--   plus-twice                two rows, one after the other
 --   rest-more                 what is left of the source after one more row, clipped at its end
 --   rest-short                it is no longer than the source
 use mathlib.Core.Path.{_≡_, refl, sym, ap, _∙_}
@@ -19,7 +20,7 @@ use Rattle.algebra.specs.Sums.{sum}
 use Rattle.algebra.proofs.Orders.{le-or-lt}
 use Rattle.algebra.proofs.Lists.{length-tab, getD-tab}
 use Rattle.algebra.proofs.Grids.{tab-cong}
-use Rattle.rows.specs.Combination.{combination, added}
+use Rattle.rows.specs.Combination.{plus, combination, added}
 
 module _ (sums weights source : List ℕ) (stride : ℕ) where
   unfoldable pub upTo : ℕ → List ℕ
@@ -38,8 +39,8 @@ module _ (sums weights source : List ℕ) (stride : ℕ) where
       same ∙ sym (getD-tab _ (length sums) j 0 l))
 
   pub up-to-more : (now row next : List ℕ) (i : ℕ) → now ≡ upTo i → row ≡ drop (i * stride) source
-      → next ≡ tab (λ j. (getD now j 0 + getD weights i 0 * getD row j 0) % 2 ^ 64) (length now) → next ≡ upTo (i + 1)
-  unfolding upTo sum entry
+      → next ≡ plus now (getD weights i 0) row → next ≡ upTo (i + 1)
+  unfolding upTo sum entry plus
   up-to-more now row next i e r n =
       let same : length now ≡ length sums = ap length e ∙ length-up-to i in
       rw add-one
@@ -60,6 +61,16 @@ module _ (sums weights source : List ℕ) (stride : ℕ) where
   pub up-to-all : upTo (length weights) ≡ added sums weights source stride
   unfolding upTo combination added
   up-to-all = refl
+
+pub plus-twice : (sums : List ℕ) (weight : ℕ) (row : List ℕ) (second : ℕ) (next : List ℕ)
+    → tab (λ j. ((getD sums j 0 + weight * getD row j 0) % 2 ^ 64 + second * getD next j 0) % 2 ^ 64) (length sums)
+    ≡ plus (plus sums weight row) second next
+unfolding plus
+plus-twice sums weight row second next =
+    let f : ℕ → ℕ = λ j. (getD sums j 0 + weight * getD row j 0) % 2 ^ 64 in
+    let n = length sums in
+    tab-cong _ _ n (λ j l. ap (λ (x : ℕ). (x + second * getD next j 0) % 2 ^ 64) (sym (getD-tab f n j 0 l)))
+    ∙ ap (tab (λ j. (getD (tab f n) j 0 + second * getD next j 0) % 2 ^ 64)) (sym (length-tab f n))
 
 -- past the end there is nothing to drop
 drop-clipped : (xs : List ℕ) (n : ℕ) → drop (min n (length xs)) xs ≡ drop n xs

@@ -2,6 +2,7 @@
 -- The rows lie in one list, the source, each a stride after the one before; a list reads as 0 past its end.
 --
 --   zeros sums                          == as many zeros as there are sums
+--   plus sums weight row                 == each sum plus weight times the row's element, in 64 bits
 --   combination weights source stride j == the sum over i of weight i times element j of row i
 --   added sums weights source stride    == each sum plus its combination, in 64 bits
 --   reduced q sums out                  == the sums modulo q, as many as have room; the rest of the output as it was
@@ -13,6 +14,9 @@ use Rattle.algebra.specs.Sums.{sum}
 
 unfoldable pub zeros : List ℕ → List ℕ
 zeros sums = tab (λ j. 0) (length sums)
+
+unfoldable pub plus : List ℕ → ℕ → List ℕ → List ℕ
+plus sums weight row = tab (λ j. (getD sums j 0 + weight * getD row j 0) % 2 ^ 64) (length sums)
 
 unfoldable pub combination : List ℕ → List ℕ → ℕ → ℕ → ℕ
 combination weights source stride j = sum (length weights) (λ i. getD weights i 0 * entry stride source i j)

@@ -1,11 +1,11 @@
 // Linear combinations of rows, in sums of 64 bits that are reduced once.
 ghost use mathlib.Core.Path.{_≡_};
-ghost use Prim.Native.Nat.{_+_, _*_, _%_, _^_};
-ghost use lib.ListN.{length, getD};
-ghost use Rattle.algebra.specs.Lists.{tab};
+ghost use Prim.Native.Nat.{_≤_};
+ghost use lib.ListN.{length};
 ghost use Rattle.field.specs.Modulus.{prime};
-ghost use Rattle.rows.specs.Combination.{zeros, added, reduced};
+ghost use Rattle.rows.specs.Combination.{zeros, plus, added, reduced};
 use field::Modulus;
+use refusal::either;
 use std::num::wrapping_add_u64;
 use words::least;
 use words::wide_product;
@@ -23,8 +23,7 @@ pub fn clear(sums: &mut [u64])
 
 // Adds weight times a row to the sums; the row may be longer than they are, or shorter.
 fn add_row(sums: &mut [u64], weight: u32, row: &[u32])
-    ensures { λ _. ⌜ now (sums .exit)
-        ≡ tab (λ j. (getD (now (sums .entry)) j 0 + weight * getD (now (row .entry)) j 0) % 2 ^ 64) (length (now (sums .entry))) ⌝ }
+    ensures { λ _. ⌜ now (sums .exit) ≡ plus (now (sums .entry)) weight (now (row .entry)) ⌝ }
 {
     let n = least(sums.len(), row.len());
     let mut j = 0;
@@ -34,17 +33,40 @@ fn add_row(sums: &mut [u64], weight: u32, row: &[u32])
     }
 }
 
-// Adds to the sums each weight times its row. The rows lie in the source, each a stride after the one before.
+// Adds two weights times their rows, so that each sum is read and written once for both; the rows are as long as the sums, or
+// longer.
+fn add_two_rows(sums: &mut [u64], weight: u32, row: &[u32], second: u32, next: &[u32])
+    requires { ⌜ (length (now sums) ≤ length (now row)) × (length (now sums) ≤ length (now next)) ⌝ }
+    ensures { λ _. ⌜ now (sums .exit) ≡ plus (plus (now (sums .entry)) weight (now (row .entry))) second (now (next .entry)) ⌝ }
+{
+    let mut j = 0;
+    while j < sums.len() {
+        let sum = wrapping_add_u64(sums[j], wide_product(weight, row[j]));
+        sums[j] = wrapping_add_u64(sum, wide_product(second, next[j]));
+        j += 1;
+    }
+}
+
+// Adds to the sums each weight times its row, two at a time where that can be. The rows lie in the source, each a stride after
+// the one before.
 pub fn add_rows(sums: &mut [u64], weights: &[u32], source: &[u32], stride: usize)
     ensures { λ _. ⌜ now (sums .exit) ≡ added (now (sums .entry)) (now (weights .entry)) (now (source .entry)) stride ⌝ }
 {
     let mut rest = source;
     let mut i = 0;
     while i < weights.len() {
-        add_row(sums, weights[i], rest);
         let step = least(stride, rest.len());
-        rest = &rest[step..];
-        i += 1;
+        let next = &rest[step..];
+        if either(weights.len() - i < 2, next.len() < sums.len()) {
+            add_row(sums, weights[i], rest);
+            rest = next;
+            i += 1;
+        } else {
+            add_two_rows(sums, weights[i], rest, weights[i + 1], next);
+            let step = least(stride, next.len());
+            rest = &next[step..];
+            i += 2;
+        }
     }
 }
 

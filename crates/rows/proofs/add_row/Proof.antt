@@ -7,16 +7,17 @@ use borrow.Author.Needs.{needs}
 use lib.ListN.{length, getD, drop, set, length-set, List·getD-eq-default}
 use Rattle.algebra.specs.Lists.{tab}
 use Rattle.algebra.proofs.Fronts.{front-none, front-more, front-old, front-rest}
+use Rattle.rows.specs.Combination.{plus}
 use Rattle.rows.proofs.add_row.Statement.{statement}
 use Rattle.rows.proofs.add_row.Tie as tie
 
 -- a sum with its term
-abbrev plus : List ℕ → ℕ → List ℕ → ℕ → ℕ
-plus sums weight row j = (getD sums j 0 + weight * getD row j 0) % 2 ^ 64
+abbrev term : List ℕ → ℕ → List ℕ → ℕ → ℕ
+term sums weight row j = (getD sums j 0 + weight * getD row j 0) % 2 ^ 64
 
 abbrev Inv-loop : tie.InvT-loop
 Inv-loop sums₀ weight row n j₀ sums j =
-    record { is : sums ≡ tab (plus sums₀ weight row) j ++ drop j sums₀; short : j ≤ n; same : length sums ≡ length sums₀ }
+    record { is : sums ≡ tab (term sums₀ weight row) j ++ drop j sums₀; short : j ≤ n; same : length sums ≡ length sums₀ }
 
 abbrev μ-loop : tie.MeasureT-loop
 μ-loop sums₀ weight row n j₀ sums j = n - j
@@ -62,7 +63,7 @@ loop-again c =
     let k = c .before .before .before .before .before in
     let a = k .before .before .before .before .args in
     let l = k .loop in
-    let f = plus (a .sums .now) (a .weight) (a .row .now) in
+    let f = term (a .sums .now) (a .weight) (a .row .now) in
     let old : getD (l .sums) (l .j) 0 ≡ getD (a .sums .now) (l .j) 0
     = ap (λ (xs : List ℕ). getD xs (l .j) 0) (l .inv .is) ∙ front-old f (a .sums .now) (l .j) (l .j) (omega arith) in
     let value : c .wrapping-add-u64 .result ≡ f (l .j) = omega (arith, c .wrapping-add-u64 .ensures, c .before .wide-product .ensures) in
@@ -76,16 +77,17 @@ same-length : tie.Need-same-length Inv-loop μ-loop
 same-length c = c .before .loop .inv .same
 
 returns : tie.Need-returns Inv-loop μ-loop
+unfolding plus
 returns c =
     let s = c .before .before .before .before in
     let a = s .before .args in
     let l = c .before .loop in
-    let f = plus (a .sums .now) (a .weight) (a .row .now) in
+    let f = term (a .sums .now) (a .weight) (a .row .now) in
     let n : l .j ≡ min (length (a .sums .now)) (length (a .row .now)) = omega (arith, c .before .before .least .ensures) in
     l .inv .is
     ∙ front-rest f (a .sums .now) (l .j) (omega arith) (λ i past within.
     let none : getD (a .row .now) i 0 ≡ 0 = List·getD-eq-default (a .row .now) 0 (omega arith) in
-    let term : a .weight * getD (a .row .now) i 0 ≡ a .weight * 0 = ap (λ (x : ℕ). a .weight * x) none in
+    let product : a .weight * getD (a .row .now) i 0 ≡ a .weight * 0 = ap (λ (x : ℕ). a .weight * x) none in
     let kept : getD (a .sums .now) i 0 ≡ f i = omega (arith, s .slice-known .given i) in
     kept)
 

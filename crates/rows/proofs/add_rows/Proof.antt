@@ -1,9 +1,13 @@
 -- `rows::add_rows` meets its contract.
-use mathlib.Core.Path.{_≡_, ap, _∙_}
+use mathlib.Core.Path.{_≡_, refl, sym, ap, _∙_}
 use Prim.Native.Nat.{ℕ, _+_, _-_, _*_, _≤_}
 use native.Mathlib.Omega.{arith}
 use borrow.Author.Needs.{needs}
-use lib.ListN.{length, drop}
+use borrow.Author.Tests.{ltb-false}
+use lib.Dec.{ltb}
+use lib.ListN.{length, getD, take, drop, length-take, length-drop}
+use Rattle.algebra.proofs.Tests.{or-left, or-right}
+use Rattle.rows.specs.Combination.{plus}
 use Rattle.rows.proofs.Steps.{upTo, length-up-to, up-to-none, up-to-more, up-to-all, rest-more, rest-short}
 use Rattle.rows.proofs.add_rows.Statement.{statement}
 use Rattle.rows.proofs.add_rows.Tie as tie
@@ -32,6 +36,27 @@ loop-holds c =
       few = omega arith;
     }
 
+least-requires : tie.Need-least-requires Inv-loop μ-loop
+least-requires c κs = search needs
+
+mul-next : tie.Need-mul-next Inv-loop μ-loop
+mul-next c = omega arith
+
+sub-next : tie.Need-sub-next Inv-loop μ-loop
+sub-next c = omega arith
+
+part-next-start : tie.Need-part-next-start Inv-loop μ-loop
+part-next-start c = omega arith
+
+part-next-end : tie.Need-part-next-end Inv-loop μ-loop
+part-next-end c = omega arith
+
+sub-either : tie.Need-sub-either Inv-loop μ-loop
+sub-either c = omega arith
+
+either-requires : tie.Need-either-requires Inv-loop μ-loop
+either-requires c κs = search needs
+
 mul-add-row : tie.Need-mul-add-row Inv-loop μ-loop
 mul-add-row c = omega arith
 
@@ -41,8 +66,72 @@ shared-slice-read-add-row c = omega arith
 add-row-requires : tie.Need-add-row-requires Inv-loop μ-loop
 add-row-requires c κs = search needs
 
-least-requires : tie.Need-least-requires Inv-loop μ-loop
-least-requires c κs = search needs
+add-i : tie.Need-add-i Inv-loop μ-loop
+add-i c = omega arith
+
+loop-less : tie.Need-loop-less Inv-loop μ-loop
+loop-less c = omega arith
+
+-- the row after this one
+next-row : (c : tie.After-least Inv-loop μ-loop)
+    → take (length (c .before .before .loop .rest .now) - c .least .result) (drop (c .least .result) (c .before .before .loop .rest .now))
+    ≡ drop ((c .before .before .loop .i + 1) * c .before .before .before .before .before .before .args .stride) (c .before .before .before .before .before .before .args .source .now)
+next-row c =
+    let l = c .before .before .loop in
+    let a = c .before .before .before .before .before .before .args in
+    rest-more (a .source .now) (l .rest .now) (l .i) (a .stride) (c .least .result) (l .inv .row) (c .least .ensures)
+
+loop-again : tie.Need-loop-again Inv-loop μ-loop
+loop-again c =
+    let k = c .before .before .before .before .before .before .before .before in
+    let l = k .before .before .loop in
+    let a = k .before .before .before .before .before .before .args in
+    let added = c .before .before .add-row in
+    record {
+      is =
+          up-to-more (a .sums .now) (a .weights .now) (a .source .now) (a .stride) (l .sums) (l .rest .now) (added .last .0) (l .i) (l .inv .is) (l .inv .row)
+          (added .ensures);
+      row = next-row k;
+      short = rest-short (a .source .now) _ (l .i + 1) (a .stride) (next-row k);
+      few = omega arith;
+    }
+
+-- there are two more weights, and the next row is as long as the sums
+two-more : (c : tie.Else1 Inv-loop μ-loop)
+    → (2 ≤ length (c .before .before .before .before .before .before .before .before .before .args .weights .now) - c .before .before .before .before .before .loop .i)
+    × (length (c .before .before .before .before .before .loop .sums) ≤ length (take (length (c .before .before .before .before .before .loop .rest .now) - c .before .before .before .least .result) (drop (c .before .before .before .least .result) (c .before .before .before .before .before .loop .rest .now))))
+two-more c =
+    let l = c .before .before .before .before .before .loop in
+    let step = c .before .before .before .least .result in
+    let few = ltb (length (c .before .before .before .before .before .before .before .before .before .args .weights .now) - l .i) 2 in
+    let thin = ltb (length (take (length (l .rest .now) - step) (drop step (l .rest .now)))) (length (l .sums)) in
+    let e = sym (c .before .either .ensures) ∙ c .if1 .left in
+    (ltb-false _ _ (or-left few thin e), ltb-false _ _ (or-right few thin e))
+
+mul-add-two-rows : tie.Need-mul-add-two-rows Inv-loop μ-loop
+mul-add-two-rows c = omega arith
+
+shared-slice-read-add-two-rows : tie.Need-shared-slice-read-add-two-rows Inv-loop μ-loop
+shared-slice-read-add-two-rows c = omega arith
+
+add-add-two-rows : tie.Need-add-add-two-rows Inv-loop μ-loop
+add-add-two-rows c = omega arith
+
+mul-add-two-rows-2 : tie.Need-mul-add-two-rows-2 Inv-loop μ-loop
+mul-add-two-rows-2 c = omega arith
+
+shared-slice-read-add-two-rows-2 : tie.Need-shared-slice-read-add-two-rows-2 Inv-loop μ-loop
+shared-slice-read-add-two-rows-2 c = let m = two-more (c .before .before .before) in omega arith
+
+add-two-rows-requires : tie.Need-add-two-rows-requires Inv-loop μ-loop
+add-two-rows-requires c κs =
+    let k = c .before .before .before .before .before .before in
+    let rest = k .before .before .loop .rest .now in
+    let m = two-more (c .before .before .before) in
+    (omega (arith, length-take (length rest - k .least .result) (drop (k .least .result) rest), length-drop (k .least .result) rest), m .1)
+
+least-requires-2 : tie.Need-least-requires-2 Inv-loop μ-loop
+least-requires-2 c κs = search needs
 
 mul-rest : tie.Need-mul-rest Inv-loop μ-loop
 mul-rest c = omega arith
@@ -56,26 +145,29 @@ part-rest-start c = omega arith
 part-rest-end : tie.Need-part-rest-end Inv-loop μ-loop
 part-rest-end c = omega arith
 
-add-i : tie.Need-add-i Inv-loop μ-loop
-add-i c = omega arith
+add-i-2 : tie.Need-add-i-2 Inv-loop μ-loop
+add-i-2 c = omega arith
 
-loop-less : tie.Need-loop-less Inv-loop μ-loop
-loop-less c = omega arith
+loop-less-2 : tie.Need-loop-less-2 Inv-loop μ-loop
+loop-less-2 c = omega arith
 
-loop-again : tie.Need-loop-again Inv-loop μ-loop
-loop-again c =
-    let k = c .before .before .before .before .before .before .before .before in
-    let a = k .before .before .before .before .args in
-    let l = k .loop in
-    let added = c .before .before .before .before .add-row in
-    let row = rest-more (a .source .now) (l .rest .now) (l .i) (a .stride) (c .before .least .result) (l .inv .row) (c .before .least .ensures) in
+loop-again-2 : tie.Need-loop-again-2 Inv-loop μ-loop
+loop-again-2 c =
+    let el = c .before .before .before .before .before .before .before .before in
+    let k = el .before .before .before in
+    let l = k .before .before .loop in
+    let a = k .before .before .before .before .before .before .args in
+    let added = c .before .before .before .before .add-two-rows in
+    let next = take (length (l .rest .now) - k .least .result) (drop (k .least .result) (l .rest .now)) in
+    let once = up-to-more (a .sums .now) (a .weights .now) (a .source .now) (a .stride) (l .sums) (l .rest .now) (plus (l .sums) (getD (a .weights .now) (l .i) 0) (l .rest .now)) (l .i) (l .inv .is) (l .inv .row) refl in
+    let twice = up-to-more (a .sums .now) (a .weights .now) (a .source .now) (a .stride) (plus (l .sums) (getD (a .weights .now) (l .i) 0) (l .rest .now)) next (added .last .0) (l .i + 1) once (next-row k) (added .ensures) in
+    let row = rest-more (a .source .now) next (l .i + 1) (a .stride) (c .before .least2 .result) (next-row k) (c .before .least2 .ensures) in
+    let two : l .i + 1 + 1 ≡ l .i + 2 = omega arith in
     record {
-      is =
-          up-to-more (a .sums .now) (a .weights .now) (a .source .now) (a .stride) (l .sums) (l .rest .now) (added .last .0) (l .i) (l .inv .is) (l .inv .row)
-          (added .ensures);
-      row = row;
-      short = rest-short (a .source .now) _ (l .i + 1) (a .stride) row;
-      few = omega arith;
+      is = twice ∙ ap (upTo (a .sums .now) (a .weights .now) (a .source .now) (a .stride)) two;
+      row = row ∙ ap (λ (n : ℕ). drop (n * a .stride) (a .source .now)) two;
+      short = rest-short (a .source .now) _ (l .i + 1 + 1) (a .stride) row;
+      few = let m = two-more el in omega arith;
     }
 
 same-length : tie.Need-same-length Inv-loop μ-loop
@@ -100,16 +192,32 @@ add-rows-spec =
     Inv-loop
     μ-loop
     loop-holds
+    least-requires
+    mul-next
+    sub-next
+    part-next-start
+    part-next-end
+    sub-either
+    either-requires
     mul-add-row
     shared-slice-read-add-row
     add-row-requires
-    least-requires
+    add-i
+    loop-less
+    loop-again
+    mul-add-two-rows
+    shared-slice-read-add-two-rows
+    add-add-two-rows
+    mul-add-two-rows-2
+    shared-slice-read-add-two-rows-2
+    add-two-rows-requires
+    least-requires-2
     mul-rest
     sub-rest
     part-rest-start
     part-rest-end
-    add-i
-    loop-less
-    loop-again
+    add-i-2
+    loop-less-2
+    loop-again-2
     same-length
     returns)
