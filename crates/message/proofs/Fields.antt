@@ -1,0 +1,160 @@
+-- What the tests of a message tell, and when they pass.
+--
+--   inside, under, over  a number is in a range, or is not
+--   sizes             rows and columns are in their range
+--   Ranged h          the fields are in their ranges
+--   ranged            they are where the tests of the fields pass
+--   Writable h xs room  what the tests of writing ask
+--   writable, writes  they pass where it holds, and only there
+--   Readable message  what the tests of a message ask
+--   readable, reads   they pass where it holds, and only there
+use mathlib.Core.Path.{_≡_, refl, sym, ap, ap₂, _∙_, subst}
+use mathlib.Core.Bool.{Bool, true, false, not, _||_}
+use mathlib.Core.List.{List, [], _∷_, _++_}
+use Prim.Native.Nat.{ℕ, _+_, _*_, _^_, _<_, _≤_}
+use native.Mathlib.Omega.{arith}
+use lib.Dec.{T, eqb, ltb}
+use lib.ListN.{length, getD}
+use borrow.Author.Tests.{ltb-false, lt-ltb, le-ltb, eqb-true, eq-eqb, not-false}
+use Rattle.algebra.specs.Lists.{AllBelow, allBelow}
+use Rattle.algebra.proofs.Lists.{all-below}
+use Rattle.algebra.proofs.Tests.{or-left, or-right}
+use Rattle.refusal.specs.Chain.{Row, first, outside}
+use Rattle.refusal.proofs.Chains.{first-none, first-miss, first-clear, first-append, first-append-clear, numbered, inside-high}
+use Rattle.field.specs.Modulus.{moduli, modulus, noModulus}
+use Rattle.field.proofs.Moduli.{known-number}
+use Rattle.elements.specs.Bytes.{numberAt}
+use Rattle.message.specs.declared.Header.{Header}
+use Rattle.message.specs.Format.{mark, version, headerOf, elementCount, elements, kindTest, hostTest, sizeTest, blockTest, fieldTests, elementTest, writeLengthTest, writeTests, markTest, versionTest, lengthTest, messageTests}
+
+-- two numbers that a test found equal, and the test where they are
+same : (a b : ℕ) → not (eqb a b) ≡ false → a ≡ b
+same a b e = eqb-true a b (not-false (eqb a b) e)
+
+alike : (a b : ℕ) → a ≡ b → not (eqb a b) ≡ false
+alike a b e = ap not (eq-eqb a b e)
+
+module _ (low high n : ℕ) where
+  pub inside : low ≤ n → n ≤ high → outside low high n ≡ false
+  unfolding outside
+  inside l h = ap₂ _||_ (le-ltb n low l) (le-ltb high n h)
+
+  pub under : n < low → outside low high n ≡ true
+  unfolding outside
+  under l = ap (λ (b : Bool). b || ltb high n) (lt-ltb n low l)
+
+  pub over : low ≤ n → high < n → outside low high n ≡ true
+  unfolding outside
+  over l h = ap₂ _||_ (le-ltb n low l) (lt-ltb high n h)
+
+pub record Ranged (h : Header) : Type 0 where
+  pub prime : modulus (h .modulus) < 2 ^ 31
+  pub kind : h .kind ≤ 3
+  pub modulus : h .modulus ≤ 3
+  pub host : h .host ≤ 64
+  pub rows : h .rows ≤ 16384
+  pub columns : h .columns ≤ 16384
+  pub count : elementCount h ≤ 4096
+
+module _ (h : Header) where
+  pub sizes : sizeTest h ≡ false → (h .rows ≤ 16384) × (h .columns ≤ 16384)
+  unfolding sizeTest
+  sizes e =
+      let rows = outside 1 16384 (h .rows) in
+      let columns = outside 1 16384 (h .columns) in
+      (inside-high 1 16384 _ (or-left rows columns e), inside-high 1 16384 _ (or-right rows columns e))
+
+  pub ranged : first (fieldTests h) ≡ 0 → Ranged h
+  unfolding fieldTests kindTest hostTest blockTest noModulus moduli
+  ranged e =
+      let kind = first-clear (kindTest h) 15 _ e in
+      let number = first-clear (noModulus (h .modulus)) 0 _ (kind .1) in
+      let host = first-clear (hostTest h) 11 _ (number .1) in
+      let size = first-clear (sizeTest h) 1 _ (host .1) in
+      let block = first-clear (blockTest h) 5 _ (size .1) in
+      record {
+        kind = inside-high 1 3 _ (kind .0);
+        modulus = inside-high 1 3 _ (number .0);
+        host = inside-high 1 64 _ (host .0);
+        rows = sizes (size .0) .0;
+        columns = sizes (size .0) .1;
+        count = ltb-false 4096 _ (block .0);
+        prime = known-number (h .modulus) (number .0) .small;
+      }
+
+  fields-numbered : T (numbered (fieldTests h))
+  unfolding fieldTests numbered
+  fields-numbered = tt
+
+  pub record Writable (xs : List ℕ) (size : ℕ) : Type 0 where
+    pub fields : first (fieldTests h) ≡ 0
+    pub count : length xs ≡ elementCount h
+    pub room : size ≡ 16 + 4 * elementCount h
+    pub below : elementTest (h .modulus) xs ≡ false
+
+  module _ (xs : List ℕ) (room : ℕ) where
+    pub writable : first (writeTests h xs room) ≡ 0 → Writable xs room
+    unfolding writeTests writeLengthTest
+    writable e =
+        let fields = first-append-clear (fieldTests h) _ fields-numbered e in
+        let lengths = first-clear (writeLengthTest h (length xs) room) 12 _ (fields .1) in
+        let below = first-clear (elementTest (h .modulus) xs) 13 _ (lengths .1) in
+        let count = not (eqb (length xs) (elementCount h)) in
+        let whole = not (eqb room (16 + 4 * elementCount h)) in
+        record {
+          fields = fields .0;
+          count = same _ _ (or-left count whole (lengths .0));
+          room = same _ _ (or-right count whole (lengths .0));
+          below = below .0;
+        }
+
+    pub writes : Writable xs room → first (writeTests h xs room) ≡ 0
+    unfolding writeTests writeLengthTest
+    writes w =
+        first-append (fieldTests h) _ fields-numbered (w .fields)
+        ∙ first-miss _ 13 _ (rw (alike (length xs) (elementCount h) (w .count)) (alike room (16 + 4 * elementCount h) (w .room)))
+        ∙ first-miss _ 14 _ (w .below)
+        ∙ first-none
+
+pub record Readable (message : List ℕ) : Type 0 where
+  pub mark : numberAt message 0 3 ≡ mark
+  pub version : numberAt message 3 2 ≡ version
+  pub fields : first (fieldTests (headerOf message)) ≡ 0
+  pub whole : length message ≡ 16 + 4 * elementCount (headerOf message)
+  pub below : elementTest (headerOf message .modulus) (elements message) ≡ false
+
+module _ (message : List ℕ) where
+  pub readable : first (messageTests message) ≡ 0 → Readable message
+  unfolding messageTests markTest versionTest lengthTest
+  readable e =
+      let long = first-clear (ltb (length message) 16) 16 _ e in
+      let mark = first-clear (markTest message) 17 _ (long .1) in
+      let version = first-clear (versionTest message) 18 _ (mark .1) in
+      let fields = first-append-clear (fieldTests (headerOf message)) _ (fields-numbered (headerOf message)) (version .1) in
+      let whole = first-clear (lengthTest message) 19 _ (fields .1) in
+      let below = first-clear (elementTest (headerOf message .modulus) (elements message)) 13 _ (whole .1) in
+      record {
+        mark = same _ _ (mark .0);
+        version = same _ _ (version .0);
+        fields = fields .0;
+        whole = same _ _ (whole .0);
+        below = below .0;
+      }
+
+  pub reads : Readable message → first (messageTests message) ≡ 0
+  unfolding messageTests markTest versionTest lengthTest
+  reads r =
+      first-miss _ 17 _ (le-ltb (length message) 16 (omega arith))
+      ∙ first-miss _ 18 _ (alike _ _ (r .mark))
+      ∙ first-miss _ 19 _ (alike _ _ (r .version))
+      ∙ first-append (fieldTests (headerOf message)) _ (fields-numbered (headerOf message)) (r .fields)
+      ∙ first-miss _ 20 _ (alike _ _ (r .whole))
+      ∙ first-miss _ 14 _ (r .below)
+      ∙ first-none
+
+-- elements below the prime of a modulus number are 32-bit values
+pub small : (h : Header) (xs : List ℕ) → Ranged h → elementTest (h .modulus) xs ≡ false → AllBelow (2 ^ 32) xs
+unfolding elementTest
+small h xs r e i l =
+    let t : T (allBelow (modulus (h .modulus)) xs) = subst T (sym (not-false (allBelow (modulus (h .modulus)) xs) e)) tt in
+    omega (arith, all-below (modulus (h .modulus)) xs t i l, r .prime)
