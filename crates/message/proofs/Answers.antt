@@ -1,23 +1,21 @@
 -- What the calls answer and leave, by their tests.
 --
 --   written-done, written-refused    what writing leaves
---   examined-done, examined-refused  what looking a message over tells of its tests
+--   done-by, refused-by              what looking a message over answers
+--   examined-done, examined-refused  and what this tells of its tests
 --   read-short                       the output of reading is too short
 --   read-tests, read-long            it is long enough: reading tells what looking over does
 --   read-done                        what reading then leaves
 --   kept-short, kept                 what it leaves where it is refused
 use mathlib.Core.Path.{_≡_, refl, sym, ap, _∙_}
-use mathlib.Core.Bool.{true, false}
 use mathlib.Core.List.{List, _++_}
 use Prim.Native.Nat.{ℕ, zero, suc, _<_, _≤_}
 use native.Mathlib.Nat.{suc-ne-zero}
-use lib.Dec.{ltb}
 use lib.ListN.{length, drop}
 use borrow.Author.Tests.{lt-ltb, le-ltb}
 use Rattle.refusal.specs.Chain.{first, answer}
 use Rattle.refusal.proofs.Chains.{first-hit, first-miss, answer-done, answer-refused}
 use Rattle.message.specs.declared.Header.{Header}
-use Rattle.message.specs.declared.Reading.{Reading}
 use Rattle.message.specs.declared.Reading.the-variants.{Done, Refused}
 use Rattle.message.specs.Format.{messageOf, headerOf, elementCount, elements, writeTests, messageTests, readTests, written, examined, readAs, readInto}
 
@@ -31,6 +29,14 @@ module _ (h : Header) (xs out : List ℕ) where
   written-refused ne = answer-refused (messageOf h xs) (λ n. out) _ ne
 
 module _ (message : List ℕ) where
+  pub done-by : {h : Header} → h ≡ headerOf message → first (messageTests message) ≡ 0 → Done h ≡ examined message
+  unfolding examined
+  done-by same e = ap Done same ∙ sym (answer-done (Done (headerOf message)) Refused _ e)
+
+  pub refused-by : (n : ℕ) → (n ≡ 0 → ⊥) → first (messageTests message) ≡ n → Refused n ≡ examined message
+  unfolding examined
+  refused-by n ne e = sym (ap (λ (k : ℕ). answer k (Done (headerOf message)) Refused) e ∙ answer-refused (Done (headerOf message)) Refused n ne)
+
   pub examined-done : {h : Header} → examined message ≡ Done h → (first (messageTests message) ≡ 0) × (h ≡ headerOf message)
   unfolding examined answer
   examined-done {h} e = go (first (messageTests message)) refl e

@@ -8,23 +8,24 @@
 --   writable, writes  they pass where it holds, and only there
 --   Readable message  what the tests of a message ask
 --   readable, reads   they pass where it holds, and only there
-use mathlib.Core.Path.{_≡_, refl, sym, ap, ap₂, _∙_, subst}
+use mathlib.Core.Path.{_≡_, sym, ap, ap₂, subst}
 use mathlib.Core.Bool.{Bool, true, false, not, _||_}
-use mathlib.Core.List.{List, [], _∷_, _++_}
+use mathlib.Core.List.{List}
 use Prim.Native.Nat.{ℕ, _+_, _*_, _^_, _<_, _≤_}
 use native.Mathlib.Omega.{arith}
 use lib.Dec.{T, eqb, ltb}
-use lib.ListN.{length, getD}
+use lib.ListN.{length}
 use borrow.Author.Tests.{ltb-false, lt-ltb, le-ltb, eqb-true, eq-eqb, not-false}
 use Rattle.algebra.specs.Lists.{AllBelow, allBelow}
 use Rattle.algebra.proofs.Lists.{all-below}
 use Rattle.algebra.proofs.Tests.{or-left, or-right}
-use Rattle.refusal.specs.Chain.{Row, first, outside}
-use Rattle.refusal.proofs.Chains.{first-none, first-miss, first-clear, first-append, first-append-clear, numbered, inside-high}
+use Rattle.refusal.specs.Chain.{first, outside}
+use Rattle.refusal.proofs.Chains.{first-clear, first-append-clear, inside-high}
 use Rattle.field.specs.Modulus.{moduli, modulus, noModulus}
 use Rattle.field.proofs.Moduli.{known-number}
 use Rattle.elements.specs.Bytes.{numberAt}
 use Rattle.message.specs.declared.Header.{Header}
+use Rattle.message.proofs.Tests.{fields-numbered, write-none, told-none}
 use Rattle.message.specs.Format.{mark, version, headerOf, elementCount, elements, kindTest, hostTest, sizeTest, blockTest, fieldTests, elementTest, writeLengthTest, writeTests, markTest, versionTest, lengthTest, messageTests}
 
 -- two numbers that a test found equal, and the test where they are
@@ -48,6 +49,7 @@ module _ (low high n : ℕ) where
   over l h = ap₂ _||_ (le-ltb n low l) (lt-ltb high n h)
 
 pub record Ranged (h : Header) : Type 0 where
+  pub known : noModulus (h .modulus) ≡ false
   pub prime : modulus (h .modulus) < 2 ^ 31
   pub kind : h .kind ≤ 3
   pub modulus : h .modulus ≤ 3
@@ -73,6 +75,7 @@ module _ (h : Header) where
       let size = first-clear (sizeTest h) 1 _ (host .1) in
       let block = first-clear (blockTest h) 5 _ (size .1) in
       record {
+        known = number .0;
         kind = inside-high 1 3 _ (kind .0);
         modulus = inside-high 1 3 _ (number .0);
         host = inside-high 1 64 _ (host .0);
@@ -81,10 +84,6 @@ module _ (h : Header) where
         count = ltb-false 4096 _ (block .0);
         prime = known-number (h .modulus) (number .0) .small;
       }
-
-  fields-numbered : T (numbered (fieldTests h))
-  unfolding fieldTests numbered
-  fields-numbered = tt
 
   pub record Writable (xs : List ℕ) (size : ℕ) : Type 0 where
     pub fields : first (fieldTests h) ≡ 0
@@ -96,7 +95,7 @@ module _ (h : Header) where
     pub writable : first (writeTests h xs room) ≡ 0 → Writable xs room
     unfolding writeTests writeLengthTest
     writable e =
-        let fields = first-append-clear (fieldTests h) _ fields-numbered e in
+        let fields = first-append-clear (fieldTests h) _ (fields-numbered h) e in
         let lengths = first-clear (writeLengthTest h (length xs) room) 12 _ (fields .1) in
         let below = first-clear (elementTest (h .modulus) xs) 13 _ (lengths .1) in
         let count = not (eqb (length xs) (elementCount h)) in
@@ -109,12 +108,10 @@ module _ (h : Header) where
         }
 
     pub writes : Writable xs room → first (writeTests h xs room) ≡ 0
-    unfolding writeTests writeLengthTest
+    unfolding writeLengthTest
     writes w =
-        first-append (fieldTests h) _ fields-numbered (w .fields)
-        ∙ first-miss _ 13 _ (rw (alike (length xs) (elementCount h) (w .count)) (alike room (16 + 4 * elementCount h) (w .room)))
-        ∙ first-miss _ 14 _ (w .below)
-        ∙ first-none
+        write-none h xs room (w .fields)
+        (ap₂ _||_ (alike (length xs) (elementCount h) (w .count)) (alike room (16 + 4 * elementCount h) (w .room))) (w .below)
 
 pub record Readable (message : List ℕ) : Type 0 where
   pub mark : numberAt message 0 3 ≡ mark
@@ -142,15 +139,9 @@ module _ (message : List ℕ) where
       }
 
   pub reads : Readable message → first (messageTests message) ≡ 0
-  unfolding messageTests markTest versionTest lengthTest
+  unfolding markTest versionTest lengthTest
   reads r =
-      first-miss _ 17 _ (le-ltb (length message) 16 (omega arith))
-      ∙ first-miss _ 18 _ (alike _ _ (r .mark))
-      ∙ first-miss _ 19 _ (alike _ _ (r .version))
-      ∙ first-append (fieldTests (headerOf message)) _ (fields-numbered (headerOf message)) (r .fields)
-      ∙ first-miss _ 20 _ (alike _ _ (r .whole))
-      ∙ first-miss _ 14 _ (r .below)
-      ∙ first-none
+      told-none message (omega arith) (alike _ _ (r .mark)) (alike _ _ (r .version)) (r .fields) (alike _ _ (r .whole)) (r .below)
 
 -- elements below the prime of a modulus number are 32-bit values
 pub small : (h : Header) (xs : List ℕ) → Ranged h → elementTest (h .modulus) xs ≡ false → AllBelow (2 ^ 32) xs

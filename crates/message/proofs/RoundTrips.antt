@@ -5,30 +5,27 @@
 --   write-then-read   what writing leaves is read
 --   read-then-write   what was read is written
 --   round-trips       all of these
-use mathlib.Core.Path.{_≡_, refl, sym, ap, ap₂, _∙_, subst}
-use mathlib.Core.Bool.{false}
+use mathlib.Core.Path.{_≡_, sym, ap, ap₂, _∙_, subst}
 use mathlib.Core.Logic.{⊎-elim}
 use mathlib.Core.List.{List, _++_}
-use Prim.Native.Nat.{ℕ, zero, suc, _+_, _*_, _^_, _<_, _≤_}
+use Prim.Native.Nat.{ℕ, _+_, _*_, _^_, _<_, _≤_}
 use native.Mathlib.Nat.{suc-ne-zero}
 use native.Mathlib.Omega.{arith}
-use lib.Dec.{ltb}
-use lib.ListN.{length, getD, take, drop, length-append, length-drop, take-append-drop}
+use lib.ListN.{length, take, drop, length-append, length-drop, take-append-drop}
 use lib.Seq.{drop-at, getD-drop, take-at}
-use borrow.Author.Tests.{le-ltb}
 use Rattle.algebra.specs.Lists.{AllBelow}
 use Rattle.algebra.proofs.Lists.{length-tab}
 use Rattle.algebra.proofs.Orders.{le-or-lt}
-use Rattle.refusal.specs.Chain.{first, answer}
-use Rattle.refusal.proofs.Chains.{first-miss, first-clear, answer-done}
-use Rattle.elements.specs.Bytes.{numberAt, bytesOf, elementsOf}
+use Rattle.refusal.specs.Chain.{first}
+use Rattle.refusal.proofs.Chains.{answer-done}
+use Rattle.elements.specs.Bytes.{bytesOf, elementsOf}
 use Rattle.elements.proofs.Bytes.{below-append, length-bytesOf, bytesOf-bytes, elements-of-bytes, bytes-of-elements}
 use Rattle.message.specs.declared.Header.{Header}
 use Rattle.message.specs.declared.Reading.the-variants.{Done, Refused}
-use Rattle.message.specs.Format.{header, messageOf, headerOf, elementCount, payload, elements, fieldTests, elementTest, writeTests, messageTests, readTests, written, examined, readAs, readInto}
+use Rattle.message.specs.Format.{header, messageOf, headerOf, elementCount, payload, elements, fieldTests, elementTest, writeTests, messageTests, written, examined, readAs, readInto}
 use Rattle.message.specs.RoundTrips.{ReadsBack, IsWritten, RoundTrips}
 use Rattle.message.proofs.Fields.{Ranged, ranged, Writable, writable, writes, Readable, readable, reads, small}
-use Rattle.message.proofs.Answers.{written-done, examined-done, read-short, read-long, read-done}
+use Rattle.message.proofs.Answers.{written-done, done-by, examined-done, read-short, read-long, read-done}
 use Rattle.message.proofs.Headers.{length-header, header-bytes, mark-header, version-header, headerOf-header, header-headerOf}
 
 module _ (h : Header) (xs : List ℕ) (room : ℕ) (number : h .number < 2 ^ 32) (accepted : first (writeTests h xs room) ≡ 0) where
@@ -104,13 +101,11 @@ module _ (h : Header) (xs out store : List ℕ) (number : h .number < 2 ^ 32) (a
   same-count = ap elementCount (back .header) ∙ sym (writable h xs (length out) accepted .count)
 
   write-then-read : (readAs (written h xs out) (length store) ≡ Done h) × (readInto (written h xs out) store ≡ xs ++ drop (length xs) store)
-  unfolding examined
   write-then-read =
       let is = written-done h xs out accepted in
       ( ap (λ (bytes : List ℕ). readAs bytes (length store)) is
       ∙ read-long (messageOf h xs) (length store) room
-      ∙ answer-done (Done (headerOf (messageOf h xs))) Refused _ (back .accepted)
-      ∙ ap Done (back .header),
+      ∙ sym (done-by (messageOf h xs) (sym (back .header)) (back .accepted)),
       ap (λ (bytes : List ℕ). readInto bytes store) is
       ∙ read-done (messageOf h xs) store room (back .accepted)
       ∙ ap₂ (λ (ys : List ℕ) (n : ℕ). ys ++ drop n store) (back .elements) same-count)

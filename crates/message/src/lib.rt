@@ -154,10 +154,9 @@ fn version_test(message: &[u8]) -> bool
     }
 }
 
-// Writes a message with these fields and elements: the output then holds it, or it is refused by number and stays as it was.
-pub fn write_message(h: Header, xs: &[u32], out: &mut [u8]) -> u32
-    ensures number { λ r. ⌜ r ≡ first (writeTests h (now (xs .entry)) (length (now (out .entry)))) ⌝ }
-    ensures bytes { λ _. ⌜ now (out .exit) ≡ written h (now (xs .entry)) (now (out .entry)) ⌝ }
+// The tests of writing, where the output has room for that many bytes: those of the fields, 13 and 14.
+fn write_refusal(h: Header, xs: &[u32], room: usize) -> u32
+    ensures { λ r. ⌜ r ≡ first (writeTests h (now (xs .entry)) room) ⌝ }
 {
     let fields = field_refusal(h);
     if fields != 0 {
@@ -167,11 +166,23 @@ pub fn write_message(h: Header, xs: &[u32], out: &mut [u8]) -> u32
         return refusal::MODULUS;
     };
     let count = (h.rows * h.columns) as usize;
-    if either(xs.len() != count, out.len() != HEADER_BYTES + 4 * count) {
+    if either(xs.len() != count, room != HEADER_BYTES + 4 * count) {
         return refusal::LENGTH;
     }
     if !elements::all_below(modulus, xs) {
         return refusal::ELEMENT;
+    }
+    0
+}
+
+// Writes a message with these fields and elements: the output then holds it, or it is refused by number and stays as it was.
+pub fn write_message(h: Header, xs: &[u32], out: &mut [u8]) -> u32
+    ensures number { λ r. ⌜ r ≡ first (writeTests h (now (xs .entry)) (length (now (out .entry)))) ⌝ }
+    ensures bytes { λ _. ⌜ now (out .exit) ≡ written h (now (xs .entry)) (now (out .entry)) ⌝ }
+{
+    let refused = write_refusal(h, xs, out.len());
+    if refused != 0 {
+        return refused;
     }
     let head = header_bytes(h);
     text::put_bytes(out, 0, &head);
