@@ -3,8 +3,9 @@
 --   written-done, written-refused    what writing leaves
 --   done-by, refused-by              what looking a message over answers
 --   examined-done, examined-refused  and what this tells of its tests
+--   examined-number, read-number     the number of an answer is that of the first test that fits
 --   read-short                       the output of reading is too short
---   read-tests, read-long            it is long enough: reading tells what looking over does
+--   read-long                        it is long enough: reading tells what looking over does
 --   read-done                        what reading then leaves
 --   kept-short, kept                 what it leaves where it is refused
 use mathlib.Core.Path.{_≡_, refl, sym, ap, _∙_}
@@ -17,7 +18,7 @@ use Rattle.refusal.specs.Chain.{first, answer}
 use Rattle.refusal.proofs.Chains.{first-hit, first-miss, answer-done, answer-refused}
 use Rattle.message.specs.declared.Header.{Header}
 use Rattle.message.specs.declared.Reading.the-variants.{Done, Refused}
-use Rattle.message.specs.Format.{messageOf, headerOf, elementCount, elements, writeTests, messageTests, readTests, written, examined, readAs, readInto}
+use Rattle.message.specs.Format.{messageOf, headerOf, elementCount, elements, writeTests, messageTests, readTests, written, examined, readAs, readInto, numberOf}
 
 module _ (h : Header) (xs out : List ℕ) where
   pub written-done : first (writeTests h xs (length out)) ≡ 0 → written h xs out ≡ messageOf h xs
@@ -27,6 +28,11 @@ module _ (h : Header) (xs out : List ℕ) where
   pub written-refused : (first (writeTests h xs (length out)) ≡ 0 → ⊥) → written h xs out ≡ out
   unfolding written
   written-refused ne = answer-refused (messageOf h xs) (λ n. out) _ ne
+
+number-told : (h : Header) (n : ℕ) → numberOf (answer n (Done h) Refused) ≡ n
+unfolding answer
+number-told h zero = refl
+number-told h (suc n) = refl
 
 module _ (message : List ℕ) where
   pub done-by : {h : Header} → h ≡ headerOf message → first (messageTests message) ≡ 0 → Done h ≡ examined message
@@ -46,14 +52,24 @@ module _ (message : List ℕ) where
       go zero is e = (is, cc)
       go (suc n) is e = let z : _≡_ {A = ℕ} 1 0 = cc in absurd (suc-ne-zero 0 z)
 
-  pub examined-refused : {n : ℕ} → examined message ≡ Refused n → first (messageTests message) ≡ 0 → ⊥
+  pub examined-refused : {n : ℕ} → examined message ≡ Refused n → (first (messageTests message) ≡ n) × (n ≡ 0 → ⊥)
+  unfolding examined answer
+  examined-refused {n} e = go (first (messageTests message)) refl e
+    where
+      go : (k : ℕ) → first (messageTests message) ≡ k → answer k (Done (headerOf message)) Refused ≡ Refused n
+          → (first (messageTests message) ≡ n) × (n ≡ 0 → ⊥)
+      go zero is e = let z : _≡_ {A = ℕ} 1 0 = cc in absurd (suc-ne-zero 0 z)
+      go (suc k) is e = let same : suc k ≡ n = cc in (is ∙ same, λ z. suc-ne-zero k (same ∙ z))
+
+  pub examined-number : numberOf (examined message) ≡ first (messageTests message)
   unfolding examined
-  examined-refused {n} e s =
-      let is : Done (headerOf message) ≡ Refused n = sym (answer-done (Done (headerOf message)) Refused _ s) ∙ e in
-      let z : _≡_ {A = ℕ} 1 0 = cc in
-      suc-ne-zero 0 z
+  examined-number = number-told (headerOf message) (first (messageTests message))
 
   module _ (room : ℕ) where
+    pub read-number : numberOf (readAs message room) ≡ first (readTests message room)
+    unfolding readAs
+    read-number = number-told (headerOf message) (first (readTests message room))
+
     short-tests : room < 4096 → first (readTests message room) ≡ 13
     unfolding readTests
     short-tests l = first-hit _ 13 _ (lt-ltb room 4096 l)
@@ -62,7 +78,7 @@ module _ (message : List ℕ) where
     unfolding readAs answer
     read-short l = ap (λ (n : ℕ). answer n (Done (headerOf message)) Refused) (short-tests l)
 
-    pub read-tests : 4096 ≤ room → first (readTests message room) ≡ first (messageTests message)
+    read-tests : 4096 ≤ room → first (readTests message room) ≡ first (messageTests message)
     unfolding readTests
     read-tests l = first-miss _ 13 _ (le-ltb room 4096 l)
 

@@ -8,6 +8,7 @@
 --   writable, writes  they pass where it holds, and only there
 --   Readable message  what the tests of a message ask
 --   readable, reads   they pass where it holds, and only there
+--   small             elements that pass are 32-bit values
 use mathlib.Core.Path.{_≡_, sym, ap, ap₂, subst}
 use mathlib.Core.Bool.{Bool, true, false, not, _||_}
 use mathlib.Core.List.{List}
@@ -143,7 +144,6 @@ module _ (message : List ℕ) where
   reads r =
       told-none message (omega arith) (alike _ _ (r .mark)) (alike _ _ (r .version)) (r .fields) (alike _ _ (r .whole)) (r .below)
 
--- elements below the prime of a modulus number are 32-bit values
 pub small : (h : Header) (xs : List ℕ) → Ranged h → elementTest (h .modulus) xs ≡ false → AllBelow (2 ^ 32) xs
 unfolding elementTest
 small h xs r e i l =

@@ -3,6 +3,7 @@
 --   header-is         a header, byte by byte
 --   length-header     16 bytes
 --   header-bytes      each below 256
+--   mark-header, version-header  a message that was made begins with mark and version
 --   headerOf-header   the fields of a message are those that it was made of
 --   header-headerOf   the first 16 bytes of a message are the header with the fields that they tell
 use mathlib.Core.Path.{_≡_, refl, sym, ap, ap₂, _∙_}
@@ -73,19 +74,19 @@ module _ (h : Header) where
     headerOf-header r small =
         let kind = in-header 5 1 (lit≤ tt) ∙ past 3 mark _ 2 1 ∙ past 2 version _ 0 1 ∙ here 1 (h .kind) _ (omega arith) in
         let modulus =
-            in-header 6 1 (lit≤ tt) ∙ past 3 mark _ 3 1 ∙ past 2 version _ 1 1 ∙ past 1 (h .kind) _ 0 1 ∙ here 1 (h .modulus) _ (omega arith) in
+        in-header 6 1 (lit≤ tt) ∙ past 3 mark _ 3 1 ∙ past 2 version _ 1 1 ∙ past 1 (h .kind) _ 0 1 ∙ here 1 (h .modulus) _ (omega arith) in
         let host =
-            in-header 7 1 (lit≤ tt) ∙ past 3 mark _ 4 1 ∙ past 2 version _ 2 1 ∙ past 1 (h .kind) _ 1 1 ∙ past 1 (h .modulus) _ 0 1
-            ∙ here 1 (h .host) _ (omega arith) in
+        in-header 7 1 (lit≤ tt) ∙ past 3 mark _ 4 1 ∙ past 2 version _ 2 1 ∙ past 1 (h .kind) _ 1 1 ∙ past 1 (h .modulus) _ 0 1
+        ∙ here 1 (h .host) _ (omega arith) in
         let rows =
-            in-header 8 2 (lit≤ tt) ∙ past 3 mark _ 5 2 ∙ past 2 version _ 3 2 ∙ past 1 (h .kind) _ 2 2 ∙ past 1 (h .modulus) _ 1 2
-            ∙ past 1 (h .host) _ 0 2 ∙ here 2 (h .rows) _ (omega arith) in
+        in-header 8 2 (lit≤ tt) ∙ past 3 mark _ 5 2 ∙ past 2 version _ 3 2 ∙ past 1 (h .kind) _ 2 2 ∙ past 1 (h .modulus) _ 1 2
+        ∙ past 1 (h .host) _ 0 2 ∙ here 2 (h .rows) _ (omega arith) in
         let columns =
-            in-header 10 2 (lit≤ tt) ∙ past 3 mark _ 7 2 ∙ past 2 version _ 5 2 ∙ past 1 (h .kind) _ 4 2 ∙ past 1 (h .modulus) _ 3 2
-            ∙ past 1 (h .host) _ 2 2 ∙ past 2 (h .rows) _ 0 2 ∙ here 2 (h .columns) _ (omega arith) in
+        in-header 10 2 (lit≤ tt) ∙ past 3 mark _ 7 2 ∙ past 2 version _ 5 2 ∙ past 1 (h .kind) _ 4 2 ∙ past 1 (h .modulus) _ 3 2
+        ∙ past 1 (h .host) _ 2 2 ∙ past 2 (h .rows) _ 0 2 ∙ here 2 (h .columns) _ (omega arith) in
         let number =
-            in-header 12 4 (lit≤ tt) ∙ past 3 mark _ 9 4 ∙ past 2 version _ 7 4 ∙ past 1 (h .kind) _ 6 4 ∙ past 1 (h .modulus) _ 5 4
-            ∙ past 1 (h .host) _ 4 4 ∙ past 2 (h .rows) _ 2 4 ∙ past 2 (h .columns) _ 0 4 ∙ numberAt-bigEndian 4 (h .number) small in
+        in-header 12 4 (lit≤ tt) ∙ past 3 mark _ 9 4 ∙ past 2 version _ 7 4 ∙ past 1 (h .kind) _ 6 4 ∙ past 1 (h .modulus) _ 5 4
+        ∙ past 1 (h .host) _ 4 4 ∙ past 2 (h .rows) _ 2 4 ∙ past 2 (h .columns) _ 0 4 ∙ numberAt-bigEndian 4 (h .number) small in
         λ i. record { kind = kind i; modulus = modulus i; host = host i; rows = rows i; columns = columns i; number = number i }
 
 module _ (message : List ℕ) (bytes : AllBelow 256 message) (long : 16 ≤ length message) where

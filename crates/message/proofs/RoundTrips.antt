@@ -17,12 +17,11 @@ use Rattle.algebra.specs.Lists.{AllBelow}
 use Rattle.algebra.proofs.Lists.{length-tab}
 use Rattle.algebra.proofs.Orders.{le-or-lt}
 use Rattle.refusal.specs.Chain.{first}
-use Rattle.refusal.proofs.Chains.{answer-done}
 use Rattle.elements.specs.Bytes.{bytesOf, elementsOf}
 use Rattle.elements.proofs.Bytes.{below-append, length-bytesOf, bytesOf-bytes, elements-of-bytes, bytes-of-elements}
 use Rattle.message.specs.declared.Header.{Header}
 use Rattle.message.specs.declared.Reading.the-variants.{Done, Refused}
-use Rattle.message.specs.Format.{header, messageOf, headerOf, elementCount, payload, elements, fieldTests, elementTest, writeTests, messageTests, written, examined, readAs, readInto}
+use Rattle.message.specs.Format.{header, messageOf, headerOf, elementCount, payload, elements, fieldTests, elementTest, writeTests, messageTests, written, readAs, readInto}
 use Rattle.message.specs.RoundTrips.{ReadsBack, IsWritten, RoundTrips}
 use Rattle.message.proofs.Fields.{Ranged, ranged, Writable, writable, writes, Readable, readable, reads, small}
 use Rattle.message.proofs.Answers.{written-done, done-by, examined-done, read-short, read-long, read-done}
@@ -102,13 +101,14 @@ module _ (h : Header) (xs out store : List ℕ) (number : h .number < 2 ^ 32) (a
 
   write-then-read : (readAs (written h xs out) (length store) ≡ Done h) × (readInto (written h xs out) store ≡ xs ++ drop (length xs) store)
   write-then-read =
-      let is = written-done h xs out accepted in
-      ( ap (λ (bytes : List ℕ). readAs bytes (length store)) is
-      ∙ read-long (messageOf h xs) (length store) room
-      ∙ sym (done-by (messageOf h xs) (sym (back .header)) (back .accepted)),
-      ap (λ (bytes : List ℕ). readInto bytes store) is
-      ∙ read-done (messageOf h xs) store room (back .accepted)
-      ∙ ap₂ (λ (ys : List ℕ) (n : ℕ). ys ++ drop n store) (back .elements) same-count)
+      let is = written-done h xs out accepted in (
+        ap (λ (bytes : List ℕ). readAs bytes (length store)) is
+            ∙ read-long (messageOf h xs) (length store) room
+            ∙ sym (done-by (messageOf h xs) (sym (back .header)) (back .accepted)),
+        ap (λ (bytes : List ℕ). readInto bytes store) is
+            ∙ read-done (messageOf h xs) store room (back .accepted)
+            ∙ ap₂ (λ (ys : List ℕ) (n : ℕ). ys ++ drop n store) (back .elements) same-count,
+      )
 
 module _ (message out store : List ℕ) {h : Header} (bytes : AllBelow 256 message) (done : readAs message (length store) ≡ Done h)
     (whole : length out ≡ length message) where
@@ -137,11 +137,12 @@ module _ (message out store : List ℕ) {h : Header} (bytes : AllBelow 256 messa
 
   read-then-write : (first (writeTests h (take (elementCount h) (readInto message store)) (length out)) ≡ 0)
       × (written h (take (elementCount h) (readInto message store)) out ≡ message)
-  read-then-write =
-      (again,
-      written-done h (take (elementCount h) (readInto message store)) out again
-      ∙ ap₂ messageOf (told .1) same-elements
-      ∙ sym (is-written message bytes (told .0) .same))
+  read-then-write = (
+    again,
+    written-done h (take (elementCount h) (readInto message store)) out again
+        ∙ ap₂ messageOf (told .1) same-elements
+        ∙ sym (is-written message bytes (told .0) .same),
+  )
 
 pub round-trips : RoundTrips
 round-trips = record {

@@ -12,7 +12,10 @@
 --   writeTests h xs room == the tests of writing, where the output has room for that many bytes
 --   messageTests message == the tests of a message: 17 to 14
 --   readTests message room == the tests of reading, where the output has room for that many elements
---   written, readAs ..   == what the calls answer and leave
+--   written              == what writing leaves in the output
+--   examined             == what looking a message over answers
+--   readAs, readInto     == what reading answers, and what it leaves in the output: past rows times columns it is untouched
+--   numberOf             == the number that an answer of reading stands for: 0 is done
 use mathlib.Core.Bool.{Bool, not, _||_}
 use mathlib.Core.List.{List, [], _∷_, _++_}
 use Prim.Native.Nat.{ℕ, _+_, _*_}
@@ -119,15 +122,12 @@ messageTests message =
 unfoldable pub readTests : List ℕ → ℕ → List Row
 readTests message room = (ltb room 4096, 13) ∷ messageTests message
 
--- what writing leaves in the output
 unfoldable pub written : Header → List ℕ → List ℕ → List ℕ
 written h xs out = answer (first (writeTests h xs (length out))) (messageOf h xs) (λ n. out)
 
--- what looking a message over answers
 unfoldable pub examined : List ℕ → Reading
 examined message = answer (first (messageTests message)) (Done (headerOf message)) Refused
 
--- what reading answers, and what it leaves in the output: past rows times columns it is untouched
 unfoldable pub readAs : List ℕ → ℕ → Reading
 readAs message room = answer (first (readTests message room)) (Done (headerOf message)) Refused
 
@@ -135,7 +135,6 @@ unfoldable pub readInto : List ℕ → List ℕ → List ℕ
 readInto message out =
     answer (first (readTests message (length out))) (elements message ++ drop (elementCount (headerOf message)) out) (λ n. out)
 
--- the number that an answer of reading stands for: 0 is done
 abbrev pub numberOf : Reading → ℕ
 numberOf (Done h) = 0
 numberOf (Refused n) = n

@@ -61,11 +61,12 @@ returns-2 c =
     let out = a .out .now in
     let room = x .before .if1 .left in
     let r = readable message (accepted told) in
-    let fields = ranged _ (r .fields) in
-    (x .examine .ensures ∙ sym (read-long message (length out) room),
-    read .read-elements .ensures
-    ∙ read-part message (r .whole) out (omega (arith, fields .count, room))
-    ∙ sym (read-done message out room (accepted told)))
+    let fields = ranged _ (r .fields) in (
+      x .examine .ensures ∙ sym (read-long message (length out) room),
+      read .read-elements .ensures
+          ∙ read-part message (r .whole) out (omega (arith, fields .count, room))
+          ∙ sym (read-done message out room (accepted told)),
+    )
 
 returns-3 : tie.Need-returns-3
 returns-3 c =
@@ -74,8 +75,8 @@ returns-3 c =
     let message = a .message .now in
     let out = a .out .now in
     let room = x .before .if1 .left in
-    (x .examine .ensures ∙ sym (read-long message (length out) room),
-    sym (kept message out room (examined-refused message (sym (x .examine .ensures) ∙ c .enum-told2 .given .1))))
+    let told = examined-refused message (sym (x .examine .ensures) ∙ c .enum-told2 .given .1) in
+    (x .examine .ensures ∙ sym (read-long message (length out) room), sym (kept message out room (λ z. told .1 (sym (told .0) ∙ z))))
 
 pub read-message-spec : {M : Type 1} → statement M
 read-message-spec =

@@ -71,10 +71,11 @@ returns-2 c =
     let w = c .before .before in
     let p = w .before .before .before .before in
     let e = p .before .before .before .before in
-    let a = e .before .before .before .before .args in
-    (sym (accepted e),
-    written-part (a .h) (a .xs .now) (a .out .now) (p .put-bytes .last .0) (w .write-elements .last .1 .0) (room-for e) (headed p) (w .write-elements .ensures)
-    ∙ sym (written-done (a .h) (a .xs .now) (a .out .now) (accepted e)))
+    let a = e .before .before .before .before .args in (
+      sym (accepted e),
+      written-part (a .h) (a .xs .now) (a .out .now) (p .put-bytes .last .0) (w .write-elements .last .1 .0) (room-for e) (headed p) (w .write-elements .ensures)
+          ∙ sym (written-done (a .h) (a .xs .now) (a .out .now) (accepted e)),
+    )
 
 pub write-message-spec : {M : Type 1} → statement M
 write-message-spec =
