@@ -10,12 +10,13 @@ use mathlib.Core.Path.{_≡_, refl, sym, ap, ap₂, _∙_}
 use mathlib.Core.List.{List, [], _∷_, _++_}
 use Prim.Native.Nat.{ℕ, _+_, _/_, _%_, _^_, _<_, _≤_}
 use native.Mathlib.Omega.{arith}
-use lib.Dec.{lit<, lit≤}
+use lib.Dec.{lit≤}
 use lib.ListN.{length, take, drop}
 use lib.Seq.{take-add, drop-drop}
 use Rattle.algebra.specs.Lists.{AllBelow}
 use Rattle.elements.specs.Bytes.{bigEndian, numberAt}
-use Rattle.elements.proofs.Bytes.{length-bigEndian, below-append, bigEndian-bytes, numberAt-front, numberAt-past, numberAt-bigEndian, bigEndian-numberAt}
+use Rattle.elements.proofs.Bytes.{below-append, bigEndian-bytes, bigEndian-numberAt}
+use Rattle.elements.proofs.Words.{number-of-one, number-of-two, number-of-four}
 use Rattle.message.specs.declared.Header.{Header}
 use Rattle.message.specs.Format.{mark, version, header, headerOf}
 use Rattle.message.proofs.Fields.{Ranged}
@@ -36,16 +37,6 @@ module _ (h : Header) where
   unfolding header bigEndian
   length-header = refl
 
--- a number stands behind bytes of a known width, or at the front
-module _ (width x : ℕ) (rest : List ℕ) where
-  past : (at w : ℕ) → numberAt (bigEndian width x ++ rest) (width + at) w ≡ numberAt rest at w
-  past at w = numberAt-past (bigEndian width x) rest width at w (length-bigEndian width x)
-
-  here : x < 256 ^ width → numberAt (bigEndian width x ++ rest) 0 width ≡ x
-  here small =
-      numberAt-front (bigEndian width x) rest 0 width (omega (arith, length-bigEndian width x)) ∙ numberAt-bigEndian width x small
-
-module _ (h : Header) where
   pub header-bytes : AllBelow 256 (header h)
   unfolding header
   header-bytes =
@@ -58,35 +49,23 @@ module _ (h : Header) where
       (below-append 256 (bigEndian 2 (h .columns)) _ (bigEndian-bytes 2 (h .columns)) (bigEndian-bytes 4 (h .number))))))))
 
   module _ (rest : List ℕ) where
-    in-header : (at w : ℕ) → at + w ≤ 16 → numberAt (header h ++ rest) at w ≡ numberAt (header h) at w
-    in-header at w l = numberAt-front (header h) rest at w (omega (arith, length-header h))
-
     pub mark-header : numberAt (header h ++ rest) 0 3 ≡ mark
-    unfolding header mark
-    mark-header = in-header 0 3 (lit≤ tt) ∙ here 3 mark _ (lit< tt)
+    unfolding header mark bigEndian numberAt
+    mark-header = refl
 
     pub version-header : numberAt (header h ++ rest) 3 2 ≡ version
-    unfolding header version
-    version-header = in-header 3 2 (lit≤ tt) ∙ past 3 mark _ 0 2 ∙ here 2 version _ (lit< tt)
+    unfolding header mark version bigEndian numberAt
+    version-header = refl
 
     pub headerOf-header : Ranged h → h .number < 2 ^ 32 → headerOf (header h ++ rest) ≡ h
-    unfolding header headerOf
+    unfolding headerOf header mark version bigEndian
     headerOf-header r small =
-        let kind = in-header 5 1 (lit≤ tt) ∙ past 3 mark _ 2 1 ∙ past 2 version _ 0 1 ∙ here 1 (h .kind) _ (omega arith) in
-        let modulus =
-        in-header 6 1 (lit≤ tt) ∙ past 3 mark _ 3 1 ∙ past 2 version _ 1 1 ∙ past 1 (h .kind) _ 0 1 ∙ here 1 (h .modulus) _ (omega arith) in
-        let host =
-        in-header 7 1 (lit≤ tt) ∙ past 3 mark _ 4 1 ∙ past 2 version _ 2 1 ∙ past 1 (h .kind) _ 1 1 ∙ past 1 (h .modulus) _ 0 1
-        ∙ here 1 (h .host) _ (omega arith) in
-        let rows =
-        in-header 8 2 (lit≤ tt) ∙ past 3 mark _ 5 2 ∙ past 2 version _ 3 2 ∙ past 1 (h .kind) _ 2 2 ∙ past 1 (h .modulus) _ 1 2
-        ∙ past 1 (h .host) _ 0 2 ∙ here 2 (h .rows) _ (omega arith) in
-        let columns =
-        in-header 10 2 (lit≤ tt) ∙ past 3 mark _ 7 2 ∙ past 2 version _ 5 2 ∙ past 1 (h .kind) _ 4 2 ∙ past 1 (h .modulus) _ 3 2
-        ∙ past 1 (h .host) _ 2 2 ∙ past 2 (h .rows) _ 0 2 ∙ here 2 (h .columns) _ (omega arith) in
-        let number =
-        in-header 12 4 (lit≤ tt) ∙ past 3 mark _ 9 4 ∙ past 2 version _ 7 4 ∙ past 1 (h .kind) _ 6 4 ∙ past 1 (h .modulus) _ 5 4
-        ∙ past 1 (h .host) _ 4 4 ∙ past 2 (h .rows) _ 2 4 ∙ past 2 (h .columns) _ 0 4 ∙ numberAt-bigEndian 4 (h .number) small in
+        let kind : numberAt (header h ++ rest) 5 1 ≡ h .kind = number-of-one (header h ++ rest) 5 ∙ omega arith in
+        let modulus : numberAt (header h ++ rest) 6 1 ≡ h .modulus = number-of-one (header h ++ rest) 6 ∙ omega arith in
+        let host : numberAt (header h ++ rest) 7 1 ≡ h .host = number-of-one (header h ++ rest) 7 ∙ omega arith in
+        let rows : numberAt (header h ++ rest) 8 2 ≡ h .rows = number-of-two (header h ++ rest) 8 ∙ omega arith in
+        let columns : numberAt (header h ++ rest) 10 2 ≡ h .columns = number-of-two (header h ++ rest) 10 ∙ omega arith in
+        let number : numberAt (header h ++ rest) 12 4 ≡ h .number = number-of-four (header h ++ rest) 12 ∙ omega arith in
         λ i. record { kind = kind i; modulus = modulus i; host = host i; rows = rows i; columns = columns i; number = number i }
 
 module _ (message : List ℕ) (bytes : AllBelow 256 message) (long : 16 ≤ length message) where

@@ -14,11 +14,11 @@ use native.Mathlib.Omega.{arith}
 use lib.ListN.{length, take, drop, length-append, length-drop, take-append-drop}
 use lib.Seq.{drop-at, getD-drop, take-at}
 use Rattle.algebra.specs.Lists.{AllBelow}
-use Rattle.algebra.proofs.Lists.{length-tab}
 use Rattle.algebra.proofs.Orders.{le-or-lt}
 use Rattle.refusal.specs.Chain.{first}
 use Rattle.elements.specs.Bytes.{bytesOf, elementsOf}
 use Rattle.elements.proofs.Bytes.{below-append, length-bytesOf, bytesOf-bytes, elements-of-bytes, bytes-of-elements}
+use Rattle.elements.proofs.Words.{length-elements}
 use Rattle.message.specs.declared.Header.{Header}
 use Rattle.message.specs.declared.Reading.the-variants.{Done, Refused}
 use Rattle.message.specs.Format.{header, messageOf, headerOf, elementCount, payload, elements, fieldTests, elementTest, writeTests, messageTests, written, readAs, readInto}
@@ -81,11 +81,11 @@ module _ (message : List ℕ) (bytes : AllBelow 256 message) (accepted : first (
       bytes-of-elements (elementCount (headerOf message)) (payload message) payload-bytes (omega (arith, length-drop 16 message, m .whole))
 
   pub is-written : IsWritten message
-  unfolding messageOf payload elements elementsOf
+  unfolding messageOf payload elements
   is-written = record {
     accepted =
         writes (headerOf message) (elements message) (length message)
-        (record { fields = m .fields; count = length-tab _ _; room = m .whole; below = m .below });
+        (record { fields = m .fields; count = length-elements _ _; room = m .whole; below = m .below });
     same =
         sym (ap₂ (λ (xs ys : List ℕ). xs ++ ys) (header-headerOf message bytes (omega (arith, m .whole)) (m .mark) (m .version)) same-payload
         ∙ take-append-drop 16 message);
@@ -124,10 +124,10 @@ module _ (message out store : List ℕ) {h : Header} (bytes : AllBelow 256 messa
   told = examined-done message (sym (read-long message (length store) room) ∙ done)
 
   same-elements : take (elementCount h) (readInto message store) ≡ elements message
-  unfolding elements elementsOf
+  unfolding elements
   same-elements =
       ap₂ take (ap elementCount (told .1)) (read-done message store room (told .0))
-      ∙ take-at (elements message) _ (elementCount (headerOf message)) (length-tab _ _)
+      ∙ take-at (elements message) _ (elementCount (headerOf message)) (length-elements _ _)
 
   again : first (writeTests h (take (elementCount h) (readInto message store)) (length out)) ≡ 0
   again =

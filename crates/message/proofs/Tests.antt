@@ -6,13 +6,13 @@
 --   element-named                    the test of the elements, by the modulus's own prime
 use mathlib.Core.Path.{_≡_, refl, ap, _∙_}
 use mathlib.Core.Bool.{true, false, not}
-use mathlib.Core.List.{List}
+use mathlib.Core.List.{List, [], _∷_, _++_}
 use Prim.Native.Nat.{ℕ, _<_, _≤_}
 use lib.Dec.{T}
 use lib.ListN.{length}
 use borrow.Author.Tests.{lt-ltb, le-ltb}
 use Rattle.algebra.specs.Lists.{allBelow}
-use Rattle.refusal.specs.Chain.{first}
+use Rattle.refusal.specs.Chain.{Row, first}
 use Rattle.refusal.proofs.Chains.{first-none, first-hit, first-miss, first-append, first-append-hit, numbered}
 use Rattle.field.specs.declared.Modulus.{Modulus}
 use Rattle.field.specs.declared.Named.the-variants.{Is}
@@ -29,26 +29,35 @@ pub element-named : (n : ℕ) {m : Modulus} (xs : List ℕ) → named n ≡ Is m
 unfolding elementTest
 element-named n xs e = ap (λ (q : ℕ). not (allBelow q xs)) (known n e refl .is)
 
+-- the tests after those of the fields
+write-ends : Header → List ℕ → ℕ → List Row
+write-ends h xs room = (writeLengthTest h (length xs) room, 13) ∷ (elementTest (h .modulus) xs, 14) ∷ []
+
+message-ends : List ℕ → List Row
+message-ends message = (lengthTest message, 20) ∷ (elementTest (headerOf message .modulus) (elements message), 14) ∷ []
+
 module _ (h : Header) (xs : List ℕ) (room : ℕ) where
   pub write-fields : (n : ℕ) → (n ≡ 0 → ⊥) → first (fieldTests h) ≡ n → first (writeTests h xs room) ≡ n
   unfolding writeTests
   write-fields n ne e = first-append-hit (fieldTests h) _ n ne e
 
   module _ (fields : first (fieldTests h) ≡ 0) where
+    past-fields : first (writeTests h xs room) ≡ first (write-ends h xs room)
+    unfolding writeTests write-ends
+    past-fields = first-append (fieldTests h) _ (fields-numbered h) fields
+
     pub write-length : writeLengthTest h (length xs) room ≡ true → first (writeTests h xs room) ≡ 13
-    unfolding writeTests
-    write-length e = first-append (fieldTests h) _ (fields-numbered h) fields ∙ first-hit _ 13 _ e
+    unfolding write-ends
+    write-length e = past-fields ∙ first-hit _ 13 _ e
 
     module _ (lengths : writeLengthTest h (length xs) room ≡ false) where
       pub write-element : elementTest (h .modulus) xs ≡ true → first (writeTests h xs room) ≡ 14
-      unfolding writeTests
-      write-element e =
-          first-append (fieldTests h) _ (fields-numbered h) fields ∙ first-miss _ 13 _ lengths ∙ first-hit _ 14 _ e
+      unfolding write-ends
+      write-element e = past-fields ∙ first-miss _ 13 _ lengths ∙ first-hit _ 14 _ e
 
       pub write-none : elementTest (h .modulus) xs ≡ false → first (writeTests h xs room) ≡ 0
-      unfolding writeTests
-      write-none e =
-          first-append (fieldTests h) _ (fields-numbered h) fields ∙ first-miss _ 13 _ lengths ∙ first-miss _ 14 _ e ∙ first-none
+      unfolding write-ends
+      write-none e = past-fields ∙ first-miss _ 13 _ lengths ∙ first-miss _ 14 _ e ∙ first-none
 
 module _ (message : List ℕ) where
   pub told-short : length message < 16 → first (messageTests message) ≡ 17
@@ -66,42 +75,26 @@ module _ (message : List ℕ) where
       told-version e = first-miss _ 17 _ (le-ltb (length message) 16 long) ∙ first-miss _ 18 _ mark ∙ first-hit _ 19 _ e
 
       module _ (version : versionTest message ≡ false) where
+        past-version : first (messageTests message) ≡ first (fieldTests (headerOf message) ++ message-ends message)
+        unfolding messageTests message-ends
+        past-version = first-miss _ 17 _ (le-ltb (length message) 16 long) ∙ first-miss _ 18 _ mark ∙ first-miss _ 19 _ version
+
         pub told-fields : (n : ℕ) → (n ≡ 0 → ⊥) → first (fieldTests (headerOf message)) ≡ n → first (messageTests message) ≡ n
-        unfolding messageTests
-        told-fields n ne e =
-            first-miss _ 17 _ (le-ltb (length message) 16 long)
-            ∙ first-miss _ 18 _ mark
-            ∙ first-miss _ 19 _ version
-            ∙ first-append-hit (fieldTests (headerOf message)) _ n ne e
+        told-fields n ne e = past-version ∙ first-append-hit (fieldTests (headerOf message)) _ n ne e
 
         module _ (fields : first (fieldTests (headerOf message)) ≡ 0) where
+          past-all-fields : first (messageTests message) ≡ first (message-ends message)
+          past-all-fields = past-version ∙ first-append (fieldTests (headerOf message)) _ (fields-numbered (headerOf message)) fields
+
           pub told-length : lengthTest message ≡ true → first (messageTests message) ≡ 20
-          unfolding messageTests
-          told-length e =
-              first-miss _ 17 _ (le-ltb (length message) 16 long)
-              ∙ first-miss _ 18 _ mark
-              ∙ first-miss _ 19 _ version
-              ∙ first-append (fieldTests (headerOf message)) _ (fields-numbered (headerOf message)) fields
-              ∙ first-hit _ 20 _ e
+          unfolding message-ends
+          told-length e = past-all-fields ∙ first-hit _ 20 _ e
 
           module _ (whole : lengthTest message ≡ false) where
             pub told-element : elementTest (headerOf message .modulus) (elements message) ≡ true → first (messageTests message) ≡ 14
-            unfolding messageTests
-            told-element e =
-                first-miss _ 17 _ (le-ltb (length message) 16 long)
-                ∙ first-miss _ 18 _ mark
-                ∙ first-miss _ 19 _ version
-                ∙ first-append (fieldTests (headerOf message)) _ (fields-numbered (headerOf message)) fields
-                ∙ first-miss _ 20 _ whole
-                ∙ first-hit _ 14 _ e
+            unfolding message-ends
+            told-element e = past-all-fields ∙ first-miss _ 20 _ whole ∙ first-hit _ 14 _ e
 
             pub told-none : elementTest (headerOf message .modulus) (elements message) ≡ false → first (messageTests message) ≡ 0
-            unfolding messageTests
-            told-none e =
-                first-miss _ 17 _ (le-ltb (length message) 16 long)
-                ∙ first-miss _ 18 _ mark
-                ∙ first-miss _ 19 _ version
-                ∙ first-append (fieldTests (headerOf message)) _ (fields-numbered (headerOf message)) fields
-                ∙ first-miss _ 20 _ whole
-                ∙ first-miss _ 14 _ e
-                ∙ first-none
+            unfolding message-ends
+            told-none e = past-all-fields ∙ first-miss _ 20 _ whole ∙ first-miss _ 14 _ e ∙ first-none

@@ -52,6 +52,9 @@ const MARK: u32 = 0x4D444F;
 
 const HEADER_BYTES: usize = 16;
 
+// How many elements the output of reading has room for at least.
+const READ_ROOM: usize = 4096;
+
 // Kind: an A share, a B share or an answer; the rest is refused.
 fn kind_test(h: Header) -> bool
     ensures { λ r. ⌜ r ≡ kindTest h ⌝ }
@@ -225,7 +228,7 @@ pub fn read_message(message: &[u8], out: &mut [u32]) -> Reading
     ensures answer { λ r. ⌜ r ≡ readAs (now (message .entry)) (length (now (out .entry))) ⌝ }
     ensures elements { λ _. ⌜ now (out .exit) ≡ readInto (now (message .entry)) (now (out .entry)) ⌝ }
 {
-    if out.len() < MOST_ELEMENTS as usize {
+    if out.len() < READ_ROOM {
         return Reading::Refused(refusal::LENGTH);
     }
     let answer = examine(message);

@@ -125,7 +125,7 @@ returns-6 c =
     let message = e .before .before .args .message .now in
     refused-by message 20 (suc-ne-zero 19)
     (told-length message (e .if1 .left) (mark-passed m) (version-passed v) (fields-passed f)
-    (ap not (ne-eqb (length message) (16 + 4 * elementCount (headerOf message)) (λ z. c .if5 .taken (omega (arith, count-is (c .before)))))))
+    (ap not (ne-eqb (length message) (16 + 4 * elementCount (headerOf message)) (λ z. omega (arith, c .if5 .taken, count-is (c .before))))))
 
 whole : (c : tie.Else5) → length (c .before .before .before .before .before .before .before .before .before .before .before .before .before .before .before .args .message .now) ≡ 16 + 4 * elementCount (headerOf (c .before .before .before .before .before .before .before .before .before .before .before .before .before .before .before .args .message .now))
 whole c = omega (arith, c .if5 .left, count-is (c .before))

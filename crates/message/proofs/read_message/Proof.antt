@@ -12,9 +12,6 @@ use Rattle.message.proofs.Answers.{examined-done, examined-refused, rea
 use Rattle.message.proofs.read_message.Statement.{statement}
 use Rattle.message.proofs.read_message.Tie as tie
 
-cast-if1 : tie.Need-cast-if1
-cast-if1 c = search needs
-
 returns : tie.Need-returns
 returns c =
     let a = c .before .before .before .args in
@@ -82,7 +79,6 @@ pub read-message-spec : {M : Type 1} → statement M
 read-message-spec =
     tie.close
     (tie.spec
-    cast-if1
     returns
     examine-requires
     enum-told
