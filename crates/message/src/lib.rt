@@ -7,6 +7,7 @@ ghost use Rattle.message.specs.Format.{
   header,
   headerOf,
   kindTest,
+  hostTest,
   sizeTest,
   versionTest,
   markTest,
@@ -61,9 +62,17 @@ fn kind_test(h: Header) -> bool
 {
     let kind = h.kind;
     match kind {
+        0 => true,
         1..=3 => false,
-        0 | 4..=0xFFFF_FFFF => true,
+        4..=0xFFFF_FFFF => true,
     }
+}
+
+// The host is out of range.
+fn host_test(h: Header) -> bool
+    ensures { λ r. ⌜ r ≡ hostTest h ⌝ }
+{
+    outside(1, MOST_HOSTS, h.host)
 }
 
 // Rows or columns are out of range.
@@ -86,7 +95,7 @@ fn field_refusal(h: Header) -> u32
     let Named::Is(_) = field::modulus_named(h.modulus) else {
         return refusal::MODULUS;
     };
-    if outside(1, MOST_HOSTS, h.host) {
+    if host_test(h) {
         return refusal::HOST;
     }
     if size_test(h) {
@@ -102,6 +111,9 @@ fn field_refusal(h: Header) -> u32
 fn header_bytes(h: Header) -> [u8; 16]
     ensures { λ r. ⌜ r ≡ header h ⌝ }
 {
+    let rows = h.rows;
+    let columns = h.columns;
+    let number = h.number;
     [
         0x4D,
         0x44,
@@ -111,14 +123,14 @@ fn header_bytes(h: Header) -> [u8; 16]
         low_byte(h.kind),
         low_byte(h.modulus),
         low_byte(h.host),
-        low_byte(h.rows / 256),
-        low_byte(h.rows),
-        low_byte(h.columns / 256),
-        low_byte(h.columns),
-        low_byte(h.number / 16777216),
-        low_byte(h.number / 65536),
-        low_byte(h.number / 256),
-        low_byte(h.number),
+        low_byte(rows / 256),
+        low_byte(rows),
+        low_byte(columns / 256),
+        low_byte(columns),
+        low_byte(number / 16777216),
+        low_byte(number / 65536),
+        low_byte(number / 256),
+        low_byte(number),
     ]
 }
 

@@ -45,20 +45,19 @@ number-passed c =
     let m = c .before .before in
     known (m .before .before .before .args .h .modulus) (sym (m .modulus-named .ensures) ∙ c .enum-told .given .1) refl .is-number
 
-outside-requires : tie.Need-outside-requires
-outside-requires c κs = search needs
+host-test-requires : tie.Need-host-test-requires
+host-test-requires c κs = search needs
 
 returns-3 : tie.Need-returns-3
-unfolding fieldTests hostTest
+unfolding fieldTests
 returns-3 c =
     let n = c .before .before in
     sym (first-miss _ 16 _ (kind-passed (n .before .before .before))
     ∙ first-miss _ 1 _ (number-passed n)
-    ∙ first-hit _ 12 _ (sym (c .before .outside .ensures) ∙ c .if2 .taken))
+    ∙ first-hit _ 12 _ (sym (c .before .host-test .ensures) ∙ c .if2 .taken))
 
 host-passed : (c : tie.Else2) → hostTest (c .before .before .before .before .before .before .before .args .h) ≡ false
-unfolding hostTest
-host-passed c = sym (c .before .outside .ensures) ∙ c .if2 .left
+host-passed c = sym (c .before .host-test .ensures) ∙ c .if2 .left
 
 size-test-requires : tie.Need-size-test-requires
 size-test-requires c κs = search needs
@@ -114,7 +113,7 @@ field-refusal-spec =
     enum-told
     enum-told-2
     returns-2
-    outside-requires
+    host-test-requires
     returns-3
     size-test-requires
     returns-4

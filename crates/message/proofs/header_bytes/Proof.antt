@@ -40,13 +40,13 @@ low-byte-requires-11 c κs = search needs
 
 returns : tie.Need-returns
 returns c =
-    let number = c .before .before .before in
-    let columns = number .before .before .before .before in
-    let rows = columns .before .before .before in
-    let fields = rows .before .before in
-    rw (fields .before .before .before .low-byte .ensures, fields .before .before .low-byte2 .ensures, fields .before .low-byte3 .ensures, rows .before .low-byte4 .ensures)
-    (rw (rows .low-byte5 .ensures, columns .before .low-byte6 .ensures, columns .low-byte7 .ensures, number .before .before .low-byte8 .ensures)
-    (rw (number .low-byte9 .ensures, c .before .low-byte10 .ensures, c .low-byte11 .ensures) (sym (header-is (fields .before .before .before .before .args .h)))))
+    let rows = c .before .before .before .before .before .before in
+    let h = rows .before .before .before .before .before .args .h in
+    rw (rows .before .before .before .before .low-byte .ensures, rows .before .before .before .low-byte2 .ensures, rows .before .before .low-byte3 .ensures)
+    (rw (rows .before .low-byte4 .ensures, rows .low-byte5 .ensures)
+    (rw (c .before .before .before .before .before .low-byte6 .ensures, c .before .before .before .before .low-byte7 .ensures)
+    (rw (c .before .before .before .low-byte8 .ensures, c .before .before .low-byte9 .ensures, c .before .low-byte10 .ensures, c .low-byte11 .ensures)
+    (sym (header-is h)))))
 
 pub header-bytes-spec : {M : Type 1} → statement M
 header-bytes-spec =

@@ -8,11 +8,11 @@ use Rattle.message.proofs.kind_test.Tie as tie
 
 returns : tie.Need-returns
 unfolding kindTest
-returns c = sym (inside 1 3 (c .before .before .args .h .kind) (omega arith) (omega arith))
+returns c = sym (under 1 3 (c .before .args .h .kind) (omega arith))
 
 returns-2 : tie.Need-returns-2
 unfolding kindTest
-returns-2 c = sym (under 1 3 (c .before .args .h .kind) (omega arith))
+returns-2 c = sym (inside 1 3 (c .before .before .args .h .kind) (omega arith) (omega arith))
 
 returns-3 : tie.Need-returns-3
 unfolding kindTest

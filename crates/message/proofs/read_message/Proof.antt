@@ -1,6 +1,6 @@
 -- `message::read_message` meets its contract.
 use mathlib.Core.Path.{_≡_, sym, _∙_}
-use Prim.Native.Nat.{_≤_}
+use Prim.Native.Nat.{_<_, _≤_}
 use native.Mathlib.Omega.{arith}
 use lib.ListN.{length}
 use borrow.Author.Needs.{needs}
@@ -15,7 +15,8 @@ use Rattle.message.proofs.read_message.Tie as tie
 returns : tie.Need-returns
 returns c =
     let a = c .before .before .before .args in
-    (sym (read-short (a .message .now) (length (a .out .now)) (c .if1 .taken)), sym (kept-short (a .message .now) (a .out .now) (c .if1 .taken)))
+    let short : length (a .out .now) < 4096 = omega arith in
+    (sym (read-short (a .message .now) (length (a .out .now)) short), sym (kept-short (a .message .now) (a .out .now) short))
 
 examine-requires : tie.Need-examine-requires
 examine-requires c κs = search needs
@@ -56,7 +57,7 @@ returns-2 c =
     let a = x .before .before .before .before .args in
     let message = a .message .now in
     let out = a .out .now in
-    let room = x .before .if1 .left in
+    let room : 4096 ≤ length out = omega (arith, x .before .if1 .left) in
     let r = readable message (accepted told) in
     let fields = ranged _ (r .fields) in (
       x .examine .ensures ∙ sym (read-long message (length out) room),
@@ -71,7 +72,7 @@ returns-3 c =
     let a = x .before .before .before .before .args in
     let message = a .message .now in
     let out = a .out .now in
-    let room = x .before .if1 .left in
+    let room : 4096 ≤ length out = omega (arith, x .before .if1 .left) in
     let told = examined-refused message (sym (x .examine .ensures) ∙ c .enum-told2 .given .1) in
     (x .examine .ensures ∙ sym (read-long message (length out) room), sym (kept message out room (λ z. told .1 (sym (told .0) ∙ z))))
 
