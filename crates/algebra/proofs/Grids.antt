@@ -12,7 +12,7 @@ use native.Mathlib.Nat.{not-suc-le-zero, le-of-suc-le-suc, eq-or-lt-of-le, lt-su
 use native.Mathlib.Numerals.{add-one}
 use native.Mathlib.Omega.{arith}
 use lib.ListN.{length, getD, take, drop, length-append, List·getD-append, drop-of-length-le}
-use lib.Seq.{getD-append-add, take-at, drop-append-add, drop-drop}
+use lib.Seq.{getD-append-add, take-at, drop-at, drop-drop}
 use Rattle.algebra.specs.Lists.{tab, grid, entry}
 use Rattle.algebra.proofs.Lists.{length-tab, getD-tab}
 
@@ -62,16 +62,15 @@ module _ (f : ℕ → ℕ → ℕ) where
   rows-none xs columns = let none : 0 ≡ 0 * columns = omega arith in ap (λ (k : ℕ). drop k xs) none
 
   pub rows-more : (xs ys row : List ℕ) (columns i : ℕ) → ys ≡ grid f i columns ++ drop (i * columns) xs → row ≡ tab (f i) columns
-      → take (i * columns) ys ++ (row ++ drop (i * columns + columns) ys) ≡ grid f (i + 1) columns ++ drop ((i + 1) * columns) xs
+      → take (i * columns) ys ++ (row ++ drop columns (drop (i * columns) ys)) ≡ grid f (i + 1) columns ++ drop ((i + 1) * columns) xs
   unfolding grid
   rows-more xs ys row columns i e r =
       let n = length-grid i columns in
       let front : take (i * columns) ys ≡ grid f i columns = ap (take (i * columns)) e ∙ take-at (grid f i columns) _ _ n in
-      let seam : i * columns + columns ≡ length (grid f i columns) + columns = omega (arith, n) in
       let end : i * columns + columns ≡ suc i * columns = omega arith in
-      let back : drop (i * columns + columns) ys ≡ drop (suc i * columns) xs
-      = ap₂ drop seam e
-      ∙ drop-append-add (grid f i columns) (drop (i * columns) xs) columns
+      let back : drop columns (drop (i * columns) ys) ≡ drop (suc i * columns) xs
+      = ap (λ (l : List ℕ). drop columns (drop (i * columns) l)) e
+      ∙ ap (drop columns) (drop-at (grid f i columns) _ _ n)
       ∙ drop-drop columns (i * columns) xs
       ∙ ap (λ (k : ℕ). drop k xs) end in
       rw add-one

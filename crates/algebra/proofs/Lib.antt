@@ -2,6 +2,7 @@
 pub mod Orders
 pub mod Tests
 pub mod Lists
+pub mod Fronts
 pub mod Grids
 pub mod Modular
 pub mod Primes

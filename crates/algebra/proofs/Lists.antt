@@ -3,8 +3,9 @@
 --   length-tab, getD-tab      a tabulated list has its length and its elements
 --   take-tab                  the first elements of a tabulated list
 --   fill-none, fill-more, fill-all  a list that is filled from the front becomes a tabulated one
---   front-none, front-more    a list whose first elements become tabulated ones, and the rest stays
---   all-below                 what the test `allBelow` tells
+--   all-below-test            what the test `allBelow` tells
+--   below-anywhere            past the end of a list stands 0
+--   below-part                a part of a list
 --   below-none, below-more, below-all  the test, element by element
 --   below-stop                one element that is not below
 use mathlib.Core.Path.{_≡_, refl, sym, ap, _∙_}
@@ -16,10 +17,11 @@ use native.Mathlib.Nat.{not-suc-le-zero, le-of-suc-le-suc, eq-or-lt-of-le}
 use native.Mathlib.Numerals.{add-one}
 use native.Mathlib.Omega.{arith}
 use lib.Dec.{T, ltb, ltb→lt}
-use lib.ListN.{length, getD, take, drop, set, length-append, List·getD-append}
-use lib.Seq.{getD-at, set-at, drop-cons, append-snoc, take-all, take-append-le, take-suc, take-suc-set}
+use lib.ListN.{length, getD, take, drop, set, length-append, List·getD-append, List·getD-eq-default, length-take, length-drop}
+use lib.Seq.{getD-at, getD-take, getD-drop, take-all, take-append-le, take-suc, take-suc-set}
 use Rattle.algebra.specs.Lists.{tab, AllBelow, allBelow}
 use borrow.Author.Tests.{lt-ltb}
+use Rattle.algebra.proofs.Orders.{le-or-lt}
 use Rattle.algebra.proofs.Tests.{by-test, and-left, and-right}
 
 module _ {ℓ} {A : Type ℓ} (f : ℕ → A) where
@@ -55,24 +57,26 @@ module _ {ℓ} {A : Type ℓ} (f : ℕ → A) where
   pub fill-all : (xs : List A) (n : ℕ) → length xs ≡ n → take n xs ≡ tab f n → xs ≡ tab f n
   fill-all xs n h e = sym (take-all n xs (omega arith)) ∙ e
 
-  pub front-none : (xs : List A) → xs ≡ tab f 0 ++ drop 0 xs
-  unfolding tab
-  front-none xs = refl
-
-  pub front-more : (xs ys : List A) (i : ℕ) → i < length xs → ys ≡ tab f i ++ drop i xs → set ys i (f i) ≡ tab f (i + 1) ++ drop (i + 1) xs
-  unfolding tab
-  front-more xs ys i h e =
-      let n = length-tab i in
-      rw add-one
-      (ap (λ (l : List A). set l i (f i)) (e ∙ ap (λ (l : List A). tab f i ++ l) (drop-cons xs i (f i) h))
-      ∙ set-at (tab f i) (getD xs i (f i)) (drop (suc i) xs) (f i) i n
-      ∙ sym (append-snoc (tab f i) (f i) (drop (suc i) xs)))
-
-pub all-below : (q : ℕ) (xs : List ℕ) → T (allBelow q xs) → AllBelow q xs
+all-below : (q : ℕ) (xs : List ℕ) → T (allBelow q xs) → AllBelow q xs
 unfolding allBelow
 all-below q [] t i h = absurd (not-suc-le-zero h)
 all-below q (x ∷ xs) t zero h = ltb→lt x q (and-left (ltb x q) (allBelow q xs) t)
 all-below q (x ∷ xs) t (suc i) h = all-below q xs (and-right (ltb x q) (allBelow q xs) t) i (le-of-suc-le-suc h)
+
+pub all-below-test : (q : ℕ) (xs : List ℕ) → allBelow q xs ≡ true → AllBelow q xs
+all-below-test q xs e = all-below q xs (rw e tt)
+
+pub below-anywhere : (q : ℕ) (xs : List ℕ) → 0 < q → AllBelow q xs → (i : ℕ) → getD xs i 0 < q
+below-anywhere q xs pos h i =
+    ⊎-elim (λ (over : length xs ≤ i). omega (arith, List·getD-eq-default xs 0 over)) (λ (l : i < length xs). h i l) (le-or-lt (length xs) i)
+
+pub below-part : (q : ℕ) (xs : List ℕ) → AllBelow q xs → (n k : ℕ) → AllBelow q (take n (drop k xs))
+below-part q xs h n k i l =
+    let size = length-take n (drop k xs) in
+    let rest = length-drop k xs in
+    let inside : i < n = omega arith in
+    let there : k + i < length xs = omega arith in
+    omega (arith, getD-take n (drop k xs) i 0 inside, getD-drop k xs i 0, h (k + i) there)
 
 pub below-none : (q : ℕ) (xs : List ℕ) → allBelow q (take 0 xs) ≡ true
 unfolding allBelow
@@ -97,4 +101,4 @@ below-all q xs n h t = ap (allBelow q) (sym (take-all n xs h)) ∙ t
 
 pub below-stop : (q : ℕ) (xs : List ℕ) (i : ℕ) → i < length xs → q ≤ getD xs i 0 → allBelow q xs ≡ false
 below-stop q xs i h l =
-    ⊎-elim (λ (t : allBelow q xs ≡ true). let b : getD xs i 0 < q = all-below q xs (rw t tt) i h in absurd (let no : ⊥ = omega arith in no)) (λ f. f) (by-test (allBelow q xs))
+    ⊎-elim (λ (t : allBelow q xs ≡ true). let b : getD xs i 0 < q = all-below-test q xs t i h in absurd (let no : ⊥ = omega arith in no)) (λ f. f) (by-test (allBelow q xs))

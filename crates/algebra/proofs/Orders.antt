@@ -2,10 +2,11 @@
 --
 --   le-or-lt, eq-or-ne    which of the two holds
 --   mul-lt                a product of smaller numbers is smaller
+--   row-end               row i of the rows ends within them
 use mathlib.Core.Path.{_≡_}
 use mathlib.Core.Logic.{_⊎_, inl, inr}
-use Prim.Native.Nat.{ℕ, _*_, _<_, _≤_}
-use native.Mathlib.Nat.{lt-of-not-le, lt-of-le-of-lt, le-of-lt, mul-le-mul-left, mul-lt-mul-of-pos-right}
+use Prim.Native.Nat.{ℕ, _+_, _*_, _<_, _≤_}
+use native.Mathlib.Nat.{lt-of-not-le, lt-of-le-of-lt, le-of-lt, mul-le-mul-left, mul-le-mul-right, mul-lt-mul-of-pos-right}
 use native.Mathlib.Decide.{decLe, ℕ-discrete}
 use native.Mathlib.Omega.{arith}
 
@@ -25,3 +26,6 @@ eq-or-ne a b = go (ℕ-discrete a b)
 
 pub mul-lt : {a b u v : ℕ} → a < u → b < v → a * b < u * v
 mul-lt {a} ha hb = lt-of-le-of-lt (mul-le-mul-left a (le-of-lt hb)) (mul-lt-mul-of-pos-right ha (omega arith))
+
+pub row-end : {i rows : ℕ} (n : ℕ) → i < rows → i * n + n ≤ rows * n
+row-end n h = omega (arith, mul-le-mul-right n h)

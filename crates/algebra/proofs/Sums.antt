@@ -2,12 +2,13 @@
 --
 --   sum-cong sum-≈         equal, or congruent, terms
 --   sum-zero               terms that are all 0
+--   sum-bound              n terms that are each at most b
 --   sum-add sum-mul        the sum of sums; a factor taken out
 --   sum-single             only the term at k counts, modulo q
 --   sum-swap               the order of two sums
 use mathlib.Core.Path.{_≡_, refl, sym, ap, ap₂, _∙_}
 use mathlib.Core.Logic.{⊎-elim}
-use Prim.Native.Nat.{ℕ, zero, suc, _+_, _*_, _<_}
+use Prim.Native.Nat.{ℕ, zero, suc, _+_, _*_, _<_, _≤_}
 use native.Mathlib.Nat.{not-suc-le-zero, mul-zero, mul-add, lt-suc-self}
 use native.Mathlib.Omega.{arith}
 use Rattle.algebra.specs.Sums.{sum}
@@ -29,6 +30,11 @@ pub sum-zero : (n : ℕ) → sum n (λ i. 0) ≡ 0
 unfolding sum
 sum-zero zero = refl
 sum-zero (suc n) = ap (λ (x : ℕ). x + 0) (sum-zero n)
+
+pub sum-bound : (n b : ℕ) (f : ℕ → ℕ) → ((i : ℕ) → i < n → f i ≤ b) → sum n f ≤ n * b
+unfolding sum
+sum-bound zero b f h = omega arith
+sum-bound (suc n) b f h = omega (arith, sum-bound n b f (λ i l. h i (omega arith)), h n (lt-suc-self n))
 
 pub sum-add : (n : ℕ) (f g : ℕ → ℕ) → sum n (λ i. f i + g i) ≡ sum n f + sum n g
 unfolding sum

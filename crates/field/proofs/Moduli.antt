@@ -3,6 +3,7 @@
 --   prime-prime    each modulus is prime
 --   prime-small    and below 2 ^ 31
 --   prime-odd      and odd
+--   sums-fit       4096 products of elements fit 64 bits
 --   named-unknown  numbers other than 1, 2 and 3 are no modulus numbers
 --   none-named     a number that names no modulus is no modulus number
 --   Known n q      n is a modulus number, and q is its prime
@@ -10,7 +11,7 @@
 --   known-number   and so is every modulus number
 use mathlib.Core.Path.{_≡_, refl, sym, ap, ap₂, _∙_, subst}
 use mathlib.Core.Bool.{true, false, _||_, true≢false}
-use Prim.Native.Nat.{ℕ, zero, suc, _%_, _^_, _<_}
+use Prim.Native.Nat.{ℕ, zero, suc, _*_, _%_, _^_, _<_}
 use native.Mathlib.Omega.{arith}
 use lib.Dec.{lit<}
 use borrow.Author.Tests.{lt-ltb, le-ltb}
@@ -37,6 +38,11 @@ pub prime-odd : (m : Modulus) → prime m % 2 ≡ 1
 prime-odd Q13 = refl
 prime-odd Q257 = refl
 prime-odd Q65537 = refl
+
+pub sums-fit : (m : Modulus) → 4096 * (prime m * prime m) < 2 ^ 64
+sums-fit Q13 = lit< tt
+sums-fit Q257 = lit< tt
+sums-fit Q65537 = lit< tt
 
 pub named-unknown : (n : ℕ) → (n ≡ 1 → ⊥) → (n ≡ 2 → ⊥) → (n ≡ 3 → ⊥) → Unknown ≡ named n
 unfolding named

@@ -11,7 +11,7 @@ use mathlib.Core.List.{List, _∷_, _++_, append-assoc}
 use Prim.Native.Nat.{ℕ, zero, suc, _*_, _%_, _<_, _≤_}
 use native.Mathlib.Nat.{suc-ne-zero, not-suc-le-zero, eq-or-lt-of-le, le-of-suc-le-suc}
 use native.Mathlib.Omega.{arith}
-use lib.Dec.{eqb, ltb, leb}
+use lib.Dec.{eqb, leb}
 use lib.ListN.{length, getD, take}
 use borrow.Author.Tests.{ltb-false, leb-false, eqb-true, eqb-false, not-false}
 use Rattle.algebra.specs.Lists.{AllBelow, Distinct}
@@ -19,6 +19,7 @@ use Rattle.algebra.proofs.Orders.{le-or-lt}
 use Rattle.algebra.proofs.Tests.{or-left, or-right}
 use Rattle.refusal.specs.Chain.{Row, first, answer, outside}
 use Rattle.refusal.proofs.Chains.{first-clear, first-append-clear, first-append-hit, numbered, inside-low, inside-high}
+use Rattle.refusal.proofs.Limits.{blocks-fit}
 use Rattle.field.specs.Modulus.{noModulus}
 use Rattle.field.proofs.Moduli.{Known, known-number}
 use Rattle.plan.specs.declared.Job.{Job}
@@ -64,9 +65,7 @@ module _ (job : Job) (modulus : noModulus (job .modulus) ≡ false) (range : fir
       let d1 = not (eqb (job .t % job .m) 0) in
       let d2 = not (eqb (job .s % job .p) 0) in
       let d3 = not (eqb (job .r % job .n) 0) in
-      let b1 = ltb 4096 (blockRows job * blockInner job) in
-      let b2 = ltb 4096 (blockInner job * blockColumns job) in
-      let b3 = ltb 4096 (blockRows job * blockColumns job) in
+      let small = blocks-fit (blockRows job) (blockInner job) (blockColumns job) (block .0) in
       let h1 = outside 1 64 (job .hosts) in
       let h2 = leb (prime job) (job .hosts) in
       record {
@@ -75,9 +74,9 @@ module _ (job : Job) (modulus : noModulus (job .modulus) ≡ false) (range : fir
         divides-t = zero-rest _ 0 (or-left d1 d2 (or-left (d1 || d2) d3 (division .0)));
         divides-s = zero-rest _ 0 (or-right d1 d2 (or-left (d1 || d2) d3 (division .0)));
         divides-r = zero-rest _ 0 (or-right (d1 || d2) d3 (division .0));
-        block-a = ltb-false 4096 _ (or-left b1 b2 (or-left (b1 || b2) b3 (block .0)));
-        block-b = ltb-false 4096 _ (or-right b1 b2 (or-left (b1 || b2) b3 (block .0)));
-        block-c = ltb-false 4096 _ (or-right (b1 || b2) b3 (block .0));
+        block-a = small .0;
+        block-b = small .1;
+        block-c = small .2;
         hosts-low = inside-low 1 64 _ (or-left h1 h2 (hosts .0));
         hosts-high = inside-high 1 64 _ (or-left h1 h2 (hosts .0));
         hosts-below = leb-false (prime job) _ (or-right h1 h2 (hosts .0));

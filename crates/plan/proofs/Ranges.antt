@@ -3,21 +3,12 @@
 --   Ranged job    each number is in its range
 --   ranged        it is where the tests 2 to 4 pass
 use mathlib.Core.Path.{_≡_}
-use mathlib.Core.Bool.{false, _||_}
-use Prim.Native.Nat.{ℕ, _≤_}
-use Rattle.algebra.proofs.Tests.{or-left, or-right}
-use Rattle.refusal.specs.Chain.{first, outside}
-use Rattle.refusal.proofs.Chains.{first-clear, inside-low, inside-high}
+use Rattle.refusal.specs.Chain.{first}
+use Rattle.refusal.specs.Limits.{sizesOutside}
+use Rattle.refusal.proofs.Chains.{first-clear}
+use Rattle.refusal.proofs.Limits.{Within, within-both, within-all}
 use Rattle.plan.specs.declared.Job.{Job}
 use Rattle.plan.specs.Planning.{sizeTest, cutTest, groupTest, rangeTests}
-
--- n is in 1..high
-pub record Within (most n : ℕ) : Type 0 where
-  pub low : 1 ≤ n
-  pub high : n ≤ most
-
-within : (high n : ℕ) → outside 1 high n ≡ false → Within high n
-within high n e = record { low = inside-low 1 high n e; high = inside-high 1 high n e }
 
 pub record Ranged (job : Job) : Type 0 where
   pub t : Within 16384 (job .t)
@@ -29,17 +20,8 @@ pub record Ranged (job : Job) : Type 0 where
   pub xa : Within 16 (job .xa)
   pub xb : Within 16 (job .xb)
 
-within-both : (most a b : ℕ) → (outside 1 most a || outside 1 most b) ≡ false → Within most a × Within most b
-within-both most a b e =
-    (within most a (or-left (outside 1 most a) (outside 1 most b) e), within most b (or-right (outside 1 most a) (outside 1 most b) e))
-
-within-all : (most a b c : ℕ) → (outside 1 most a || outside 1 most b || outside 1 most c) ≡ false → Within most a × Within most b × Within most c
-within-all most a b c e =
-    let two = within-both most a b (or-left (outside 1 most a || outside 1 most b) (outside 1 most c) e) in
-    (two .0, two .1, within most c (or-right (outside 1 most a || outside 1 most b) (outside 1 most c) e))
-
 pub ranged : (job : Job) → first (rangeTests job) ≡ 0 → Ranged job
-unfolding rangeTests sizeTest cutTest groupTest
+unfolding rangeTests sizeTest cutTest groupTest sizesOutside
 ranged job e =
     let sizes = first-clear (sizeTest job) 1 _ e in
     let cuts = first-clear (cutTest job) 2 _ (sizes .1) in

@@ -16,10 +16,11 @@
 --   numberOf             == the number that an answer of planning stands for: 0 is done
 use mathlib.Core.Bool.{Bool, false, not, _||_}
 use mathlib.Core.List.{List, [], _∷_, _++_}
-use Prim.Native.Nat.{ℕ, zero, suc, _*_, _/_, _%_}
+use Prim.Native.Nat.{ℕ, zero, suc, _/_, _%_}
 use lib.Dec.{leb, ltb, eqb}
 use lib.ListN.{length, getD, take}
 use Rattle.refusal.specs.Chain.{Row, first, answer, outside}
+use Rattle.refusal.specs.Limits.{anyOutside, sizesOutside, overBlock}
 use Rattle.field.specs.declared.Modulus.{Modulus}
 use Rattle.field.specs.declared.Modulus.the-variants.{Q13}
 use Rattle.field.specs.declared.Named.{Named}
@@ -64,11 +65,11 @@ neededOf job = exponents (layoutOf job) (parameters job) .needed
 
 -- t, s or r is not 1..16384
 unfoldable pub sizeTest : Job → Bool
-sizeTest job = outside 1 16384 (job .t) || outside 1 16384 (job .s) || outside 1 16384 (job .r)
+sizeTest job = sizesOutside (job .t) (job .s) (job .r)
 
 -- m, p or n is not 1..8
 unfoldable pub cutTest : Job → Bool
-cutTest job = outside 1 8 (job .m) || outside 1 8 (job .p) || outside 1 8 (job .n)
+cutTest job = anyOutside 8 (job .m) (job .p) (job .n)
 
 -- X_A or X_B is not 1..16
 unfoldable pub groupTest : Job → Bool
@@ -80,10 +81,7 @@ divisionTest job = not (eqb (job .t % job .m) 0) || not (eqb (job .s % job .p) 0
 
 -- an A block, a B block or an answer block has over 4096 elements
 unfoldable pub blockTest : Job → Bool
-blockTest job =
-    ltb 4096 (blockRows job * blockInner job)
-    || ltb 4096 (blockInner job * blockColumns job)
-    || ltb 4096 (blockRows job * blockColumns job)
+blockTest job = overBlock (blockRows job) (blockInner job) (blockColumns job)
 
 -- N is not 1..64, or over q - 1
 unfoldable pub hostsTest : Job → Bool

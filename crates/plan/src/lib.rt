@@ -2,8 +2,7 @@
 ghost use mathlib.Core.Path.{_≡_};
 ghost use Prim.Native.Nat.{_≤_};
 ghost use lib.ListN.{length, take};
-ghost use mathlib.Core.Bool.{_||_};
-ghost use Rattle.refusal.specs.Chain.{first, outside};
+ghost use Rattle.refusal.specs.Chain.{first};
 ghost use Rattle.plan.specs.Planning.{
   parameters,
   prime,
@@ -23,8 +22,11 @@ use field::Modulus;
 use field::Named;
 use layout::Layout;
 use layout::Parameters;
+use refusal::any_outside;
 use refusal::either;
 use refusal::outside;
+use refusal::over_block;
+use refusal::sizes_outside;
 
 // A job's public numbers: A is t by s and B is s by r; A is cut into m by p blocks, B into p by n; xa and xb are the
 // largest groups kept ignorant of A and of B; number is the job number.
@@ -60,26 +62,10 @@ pub enum Planned {
     Refused(u32),
 }
 
-// The largest sizes and numbers of 01, "The job".
-const MOST_SIDE: u32 = 16384;
-
+// The largest numbers of cuts and of a group (01, "The job").
 const MOST_CUTS: u32 = 8;
 
 const MOST_GROUP: u32 = 16;
-
-const MOST_ELEMENTS: u32 = 4096;
-
-const MOST_HOSTS: u32 = 64;
-
-// One of three numbers is not 1 to most.
-fn any_outside(most: u32, x: u32, y: u32, z: u32) -> bool
-    ensures { λ r. ⌜ r ≡ (outside 1 most x || outside 1 most y || outside 1 most z) ⌝ }
-{
-    either(
-        either(outside(1, most, x), outside(1, most, y)),
-        outside(1, most, z),
-    )
-}
 
 // X_A or X_B is out of range.
 fn group_test(job: Job) -> bool
@@ -95,7 +81,7 @@ fn group_test(job: Job) -> bool
 fn range_refusal(job: Job) -> u32
     ensures { λ r. ⌜ r ≡ first (rangeTests job) ⌝ }
 {
-    if any_outside(MOST_SIDE, job.t, job.s, job.r) {
+    if sizes_outside(job.t, job.s, job.r) {
         return refusal::SIZE;
     }
     if any_outside(MOST_CUTS, job.m, job.p, job.n) {
@@ -123,16 +109,7 @@ fn block_test(job: Job) -> bool
     requires { ⌜ first (rangeTests job) ≡ 0 ⌝ }
     ensures { λ r. ⌜ r ≡ blockTest job ⌝ }
 {
-    let rows = job.t / job.m;
-    let inner = job.s / job.p;
-    let columns = job.r / job.n;
-    either(
-        either(
-            MOST_ELEMENTS < rows * inner,
-            MOST_ELEMENTS < inner * columns,
-        ),
-        MOST_ELEMENTS < rows * columns,
-    )
+    over_block(job.t / job.m, job.s / job.p, job.r / job.n)
 }
 
 // N is out of range. q is the job's prime.
@@ -140,7 +117,7 @@ fn hosts_test(job: Job, q: u32) -> bool
     requires { ⌜ q ≡ prime job ⌝ }
     ensures { λ r. ⌜ r ≡ hostsTest job ⌝ }
 {
-    either(outside(1, MOST_HOSTS, job.hosts), q <= job.hosts)
+    either(outside(1, refusal::MOST_HOSTS, job.hosts), q <= job.hosts)
 }
 
 // More answers are needed than there are hosts.

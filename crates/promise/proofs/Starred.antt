@@ -12,6 +12,7 @@ use lib.Dec.{T, eqb, eqb→eq}
 use Rattle.algebra.proofs.Tests.{and-left, and-right}
 use Rattle.algebra.specs.Lists.{tab}
 use Rattle.refusal.specs.Chain.{first, answer, outside}
+use Rattle.refusal.specs.Limits.{anyOutside, sizesOutside, overBlock}
 use Rattle.field.specs.Modulus.{moduli, modulus, noModulus, named}
 use Rattle.layout.specs.Exponents.{exponents, layout1, layout2, strideD, strideE, better, choice}
 use Rattle.plan.specs.Planning.{parameters, prime, modulusOf, blockRows, blockInner, blockColumns, layoutOf, neededOf, planOf}
@@ -45,7 +46,7 @@ all-right (l ∷ ls) t (suc i) h = all-right ls (and-right (same (l .0) (l .1)) 
 
 -- the planning definitions, opened to compute
 computed : T (right starred)
-unfolding right same starred answered plan thresholds smallest jobWith tab first answer outside moduli modulus noModulus named exponents layout1 layout2 strideD strideE better choice parameters prime modulusOf blockRows blockInner blockColumns layoutOf neededOf planOf sizeTest cutTest groupTest divisionTest blockTest hostsTest neededTest rangeTests fitTests member pointRows pointsRows pointTests planTests planned
+unfolding right same starred answered plan thresholds smallest jobWith tab first answer outside anyOutside sizesOutside overBlock moduli modulus noModulus named exponents layout1 layout2 strideD strideE better choice parameters prime modulusOf blockRows blockInner blockColumns layoutOf neededOf planOf sizeTest cutTest groupTest divisionTest blockTest hostsTest neededTest rangeTests fitTests member pointRows pointsRows pointTests planTests planned
 computed = tt
 
 pub starred-right : Right starred

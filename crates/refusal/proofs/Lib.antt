@@ -1,2 +1,3 @@
--- Laws of refusal chains.
+-- Laws of refusals and limits.
 pub mod Chains
+pub mod Limits

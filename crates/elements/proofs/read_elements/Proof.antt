@@ -7,7 +7,7 @@ use native.Mathlib.Omega.{arith}
 use borrow.Author.Needs.{needs}
 use lib.ListN.{length, drop, set, length-set}
 use Rattle.algebra.specs.Lists.{tab}
-use Rattle.algebra.proofs.Lists.{front-none, front-more}
+use Rattle.algebra.proofs.Fronts.{front-none, front-more}
 use Rattle.elements.specs.Bytes.{numberAt, elementsOf, common}
 use Rattle.elements.proofs.Words.{number-of-four}
 use Rattle.elements.proofs.read_elements.Statement.{statement}

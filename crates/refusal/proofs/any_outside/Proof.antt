@@ -1,7 +1,8 @@
--- `plan::any_outside` meets its contract.
+-- `refusal::any_outside` meets its contract.
 use borrow.Author.Needs.{needs}
-use Rattle.plan.proofs.any_outside.Statement.{statement}
-use Rattle.plan.proofs.any_outside.Tie as tie
+use Rattle.refusal.specs.Limits.{anyOutside}
+use Rattle.refusal.proofs.any_outside.Statement.{statement}
+use Rattle.refusal.proofs.any_outside.Tie as tie
 
 outside-requires : tie.Need-outside-requires
 outside-requires c κs = search needs
@@ -19,6 +20,7 @@ either-requires-2 : tie.Need-either-requires-2
 either-requires-2 c κs = search needs
 
 returns : tie.Need-returns
+unfolding anyOutside
 returns c = rw (c .either2 .ensures, c .before .outside3 .ensures, c .before .before .either .ensures, c .before .before .before .outside2 .ensures, c .before .before .before .before .outside .ensures)
 
 pub any-outside-spec : {M : Type 1} → statement M

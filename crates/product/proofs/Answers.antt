@@ -1,0 +1,73 @@
+-- What a call of the product answers and leaves.
+--
+--   refused    by a number that is not 0: the output stays
+--   done       by 0: the output holds the product
+--   passed     what the tests 2, 6 and 13 leave: sizes and lengths
+use mathlib.Core.Path.{_≡_, sym, ap, _∙_}
+use mathlib.Core.Bool.{false, not, _||_}
+use mathlib.Core.List.{List}
+use Prim.Native.Nat.{ℕ, _*_, _≤_}
+use native.Mathlib.Omega.{arith}
+use native.Mathlib.Nat.{mul-le-mul-right}
+use lib.Dec.{eqb}
+use lib.ListN.{length}
+use borrow.Author.Tests.{eqb-true, not-false}
+use Rattle.algebra.proofs.Tests.{or-left, or-right}
+use Rattle.refusal.specs.Chain.{first, answer}
+use Rattle.refusal.specs.Limits.{sizesOutside, overBlock}
+use Rattle.refusal.proofs.Chains.{answer-done, answer-refused}
+use Rattle.refusal.proofs.Limits.{within-all, blocks-fit}
+use Rattle.field.specs.Modulus.{modulus}
+use Rattle.product.specs.Product.{productOf, lengthTest, productTests, productAfter}
+
+module _ (n rows inner columns : ℕ) (a b out : List ℕ) where
+  number : ℕ
+  number = first (productTests n rows inner columns a b (length out))
+
+  block : List ℕ
+  block = productOf (modulus n) rows inner columns a b
+
+  pub refused : (k : ℕ) → (k ≡ 0 → ⊥) → first (productTests n rows inner columns a b (length out)) ≡ k
+      → (k ≡ first (productTests n rows inner columns a b (length out))) × (out ≡ productAfter n rows inner columns a b out)
+  unfolding productAfter number block
+  refused k ne e =
+      (sym e, sym (ap (λ (r : ℕ). answer r block (λ s. out)) e ∙ answer-refused block (λ s. out) k ne))
+
+  pub done : first (productTests n rows inner columns a b (length out)) ≡ 0 → (after : List ℕ) → after ≡ productOf (modulus n) rows inner columns a b
+      → (0 ≡ first (productTests n rows inner columns a b (length out))) × (after ≡ productAfter n rows inner columns a b out)
+  unfolding productAfter number block
+  done e after is = (sym e, is ∙ sym (answer-done block (λ s. out) number e))
+
+-- sizes and lengths once the tests 2, 6 and 13 have passed
+pub record Passed (rows inner columns a b out : ℕ) : Type 0 where
+  pub length-a : a ≡ rows * inner
+  pub length-b : b ≡ inner * columns
+  pub length-out : out ≡ rows * columns
+  pub few : inner ≤ 4096
+  pub thin : columns ≤ 4096
+  pub block-a : rows * inner ≤ 4096
+  pub block-c : rows * columns ≤ 4096
+
+equal : (a b : ℕ) → not (eqb a b) ≡ false → a ≡ b
+equal a b e = eqb-true a b (not-false (eqb a b) e)
+
+pub passed : (rows inner columns a b out : ℕ) → sizesOutside rows inner columns ≡ false → overBlock rows inner columns ≡ false
+    → lengthTest rows inner columns a b out ≡ false → Passed rows inner columns a b out
+unfolding sizesOutside lengthTest
+passed rows inner columns a b out size block len =
+    let sizes = within-all 16384 rows inner columns size in
+    let blocks = blocks-fit rows inner columns block in
+    let la = not (eqb a (rows * inner)) in
+    let lb = not (eqb b (inner * columns)) in
+    let lc = not (eqb out (rows * columns)) in
+    let one-row : 1 * inner ≤ rows * inner = mul-le-mul-right inner (sizes .0 .low) in
+    let one-line : 1 * columns ≤ rows * columns = mul-le-mul-right columns (sizes .0 .low) in
+    record {
+      length-a = equal _ _ (or-left la lb (or-left (la || lb) lc len));
+      length-b = equal _ _ (or-right la lb (or-left (la || lb) lc len));
+      length-out = equal _ _ (or-right (la || lb) lc len);
+      few = omega (arith, one-row, blocks .0);
+      thin = omega (arith, one-line, blocks .2);
+      block-a = blocks .0;
+      block-c = blocks .2;
+    }

@@ -1,0 +1,3 @@
+-- Laws of the product and of its answers.
+pub mod Rows
+pub mod Answers

@@ -1,0 +1,2 @@
+-- The host's block product.
+pub mod Product

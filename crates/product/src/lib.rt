@@ -1,0 +1,133 @@
+// The host's block product: A share times B share, modulo the prime.
+ghost use mathlib.Core.Path.{_≡_};
+ghost use mathlib.Core.Bool.{not, _||_};
+ghost use Prim.Native.Nat.{_*_, _%_, _≤_};
+ghost use lib.ListN.{length};
+ghost use Rattle.algebra.specs.Lists.{AllBelow, allBelow, tab};
+ghost use Rattle.refusal.specs.Chain.{first};
+ghost use Rattle.field.specs.Modulus.{prime};
+ghost use Rattle.rows.specs.Combination.{combination};
+ghost use Rattle.product.specs.Product.{productOf, lengthTest, productTests, productAfter};
+use field::Modulus;
+use field::Named;
+use refusal::either;
+use words::wide_product;
+
+// The most elements that a block has, and so the most columns.
+const MOST_COLUMNS: usize = 4096;
+
+// A buffer is not of exact length.
+fn length_test(rows: u32, inner: u32, columns: u32, a: usize, b: usize, out: usize) -> bool
+    ensures { λ r. ⌜ r ≡ lengthTest rows inner columns a b out ⌝ }
+{
+    either(
+        either(
+            a as u64 != wide_product(rows, inner),
+            b as u64 != wide_product(inner, columns),
+        ),
+        out as u64 != wide_product(rows, columns),
+    )
+}
+
+// An element of a share is not below the prime.
+fn element_test(modulus: Modulus, a: &[u32], b: &[u32]) -> bool
+    ensures { λ r. ⌜ r ≡ (not (allBelow (prime modulus) (now (a .entry))) || not (allBelow (prime modulus) (now (b .entry)))) ⌝ }
+{
+    either(
+        !elements::all_below(modulus, a),
+        !elements::all_below(modulus, b),
+    )
+}
+
+// One row of the product: the elements of A's row are the weights of B's rows. There is a sum for each element of the output.
+fn product_row(modulus: Modulus, row: &[u32], b: &[u32], sums: &mut [u64], out: &mut [u32])
+    requires { ⌜ AllBelow (prime modulus) (now row)
+        × AllBelow (prime modulus) (now b)
+        × length (now row) ≤ 4096
+        × length (now sums) ≡ length (now out) ⌝ }
+    ensures { λ _. ⌜ now (out .exit)
+        ≡ tab (λ j. combination (now (row .entry)) (now (b .entry)) (length (now (out .entry))) j % prime modulus) (length (now (out .entry))) ⌝ }
+{
+    rows::clear(sums);
+    rows::add_rows(sums, row, b, out.len());
+    rows::reduce_row(modulus, sums, out);
+}
+
+// The product of two shares of the right lengths, row by row.
+fn multiply_rows(
+    modulus: Modulus,
+    rows: usize,
+    inner: usize,
+    columns: usize,
+    a: &[u32],
+    b: &[u32],
+    out: &mut [u32],
+)
+    requires { ⌜ AllBelow (prime modulus) (now a)
+        × AllBelow (prime modulus) (now b)
+        × length (now a) ≡ rows * inner
+        × length (now out) ≡ rows * columns
+        × inner ≤ 4096
+        × columns ≤ 4096
+        × rows * inner ≤ 4096
+        × rows * columns ≤ 4096 ⌝ }
+    ensures { λ _. ⌜ now (out .exit) ≡ productOf (prime modulus) rows inner columns (now (a .entry)) (now (b .entry)) ⌝ }
+{
+    let mut sums = [0u64; MOST_COLUMNS];
+    let mut i = 0;
+    while i < rows {
+        let left = i * inner;
+        let left_end = left + inner;
+        let start = i * columns;
+        let end = start + columns;
+        product_row(
+            modulus,
+            &a[left..left_end],
+            b,
+            &mut sums[..columns],
+            &mut out[start..end],
+        );
+        i += 1;
+    }
+}
+
+// The product of two shares: rows by inner times inner by columns. The output then holds it, or the call is refused by number
+// and the output stays as it was.
+pub fn product(
+    modulus: u32,
+    rows: u32,
+    inner: u32,
+    columns: u32,
+    a: &[u32],
+    b: &[u32],
+    out: &mut [u32],
+) -> u32
+    ensures number { λ r. ⌜ r ≡ first (productTests modulus rows inner columns (now (a .entry)) (now (b .entry)) (length (now (out .entry)))) ⌝ }
+    ensures block { λ _. ⌜ now (out .exit) ≡ productAfter modulus rows inner columns (now (a .entry)) (now (b .entry)) (now (out .entry)) ⌝ }
+{
+    let Named::Is(named) = field::modulus_named(modulus) else {
+        return refusal::MODULUS;
+    };
+    if refusal::sizes_outside(rows, inner, columns) {
+        return refusal::SIZE;
+    }
+    if refusal::over_block(rows, inner, columns) {
+        return refusal::BLOCK;
+    }
+    if length_test(rows, inner, columns, a.len(), b.len(), out.len()) {
+        return refusal::LENGTH;
+    }
+    if element_test(named, a, b) {
+        return refusal::ELEMENT;
+    }
+    multiply_rows(
+        named,
+        rows as usize,
+        inner as usize,
+        columns as usize,
+        a,
+        b,
+        out,
+    );
+    0
+}

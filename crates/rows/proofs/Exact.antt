@@ -1,0 +1,67 @@
+-- Combinations that stay below 2 ^ 64: the sums are then the combinations themselves.
+--
+--   combination-bound     a combination whose terms are each at most b
+--   combination-below     a combination of elements below q
+--   combination-fits      at most 4096 weights, all below a prime of ours
+--   added-exact           sums that stay below 2 ^ 64
+--   added-zeros           the same, from sums that are all 0
+--   reduced-tab           as many sums as the output has room for
+use mathlib.Core.Path.{_≡_, refl, ap, _∙_}
+use mathlib.Core.List.{List, _++_}
+use Prim.Native.Nat.{ℕ, _+_, _*_, _%_, _^_, _<_, _≤_, min}
+use native.Mathlib.Nat.{zero-add, le-of-lt, mul-le-mul, mul-le-mul-right}
+use native.Mathlib.Omega.{arith}
+use lib.ListN.{length, getD, drop}
+use Rattle.algebra.specs.Lists.{tab, entry, AllBelow}
+use Rattle.algebra.proofs.Lists.{length-tab, getD-tab, below-anywhere}
+use Rattle.algebra.proofs.Grids.{tab-cong}
+use Rattle.algebra.proofs.Sums.{sum-bound}
+use Rattle.field.specs.declared.Modulus.{Modulus}
+use Rattle.field.specs.Modulus.{prime}
+use Rattle.field.proofs.Moduli.{prime-prime, sums-fit}
+use Rattle.rows.specs.Combination.{zeros, combination, added, reduced}
+use Rattle.algebra.proofs.Fronts.{front-all}
+
+module _ (weights source : List ℕ) (stride : ℕ) where
+  pub combination-bound : (j b : ℕ) → ((i : ℕ) → i < length weights → getD weights i 0 * entry stride source i j ≤ b)
+      → combination weights source stride j ≤ length weights * b
+  unfolding combination
+  combination-bound j b h = sum-bound (length weights) b (λ i. getD weights i 0 * entry stride source i j) h
+
+  pub combination-below : (j q : ℕ) → 0 < q → AllBelow q weights → AllBelow q source → combination weights source stride j ≤ length weights * (q * q)
+  unfolding entry
+  combination-below j q pos hw hs =
+      combination-bound j (q * q) (λ i l. mul-le-mul (le-of-lt (hw i l)) (le-of-lt (below-anywhere q source pos hs (i * stride + j))))
+
+  pub combination-fits : (m : Modulus) (j : ℕ) → length weights ≤ 4096 → AllBelow (prime m) weights → AllBelow (prime m) source
+      → combination weights source stride j < 2 ^ 64
+  combination-fits m j few hw hs =
+      let pos = prime-prime m .above-one in
+      omega (arith, sums-fit m, combination-below j (prime m) (omega arith) hw hs, mul-le-mul-right (prime m * prime m) few)
+
+  pub added-exact : (f : ℕ → ℕ) (n : ℕ) (sums : List ℕ) → sums ≡ tab f n → ((j : ℕ) → j < n → f j + combination weights source stride j < 2 ^ 64)
+      → added sums weights source stride ≡ tab (λ j. f j + combination weights source stride j) n
+  unfolding added
+  added-exact f n sums e small =
+      let all : length sums ≡ n = ap length e ∙ length-tab f n in
+      ap (tab (λ j. (getD sums j 0 + combination weights source stride j) % 2 ^ 64)) all
+      ∙ tab-cong _ _ n (λ j l.
+      let fits = small j l in
+      let before : getD sums j 0 ≡ f j = ap (λ (xs : List ℕ). getD xs j 0) e ∙ getD-tab f n j 0 l in
+      let exact : (getD sums j 0 + combination weights source stride j) % 2 ^ 64 ≡ f j + combination weights source stride j = omega arith in
+      exact)
+
+  pub added-zeros : (sums : List ℕ) → ((j : ℕ) → j < length sums → combination weights source stride j < 2 ^ 64)
+      → added (zeros sums) weights source stride ≡ tab (combination weights source stride) (length sums)
+  unfolding zeros
+  added-zeros sums small =
+      added-exact (λ j. 0) (length sums) (zeros sums) refl (λ j l. omega (arith, small j l))
+      ∙ tab-cong _ _ (length sums) (λ j l. zero-add (combination weights source stride j))
+
+pub reduced-tab : (q n : ℕ) (f : ℕ → ℕ) (out : List ℕ) → length out ≡ n → reduced q (tab f n) out ≡ tab (λ j. f j % q) n
+unfolding reduced
+reduced-tab q n f out e =
+    let all : min (length (tab f n)) (length out) ≡ n = omega (arith, length-tab f n) in
+    ap (λ (k : ℕ). tab (λ j. getD (tab f n) j 0 % q) k ++ drop k out) all
+    ∙ front-all (λ j. getD (tab f n) j 0 % q) out n (omega arith)
+    ∙ tab-cong _ _ n (λ j l. ap (λ (x : ℕ). x % q) (getD-tab f n j 0 l))

@@ -1,0 +1,2 @@
+-- Sums of multiples of rows.
+pub mod Combination
