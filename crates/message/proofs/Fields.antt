@@ -1,7 +1,6 @@
 -- What the tests of a message tell, and when they pass.
 --
 --   inside, under, over  a number is in a range, or is not
---   sizes             rows and columns are in their range
 --   Ranged h          the fields are in their ranges
 --   ranged            they are where the tests of the fields pass
 --   Writable h xs room  what the tests of writing ask
@@ -9,19 +8,20 @@
 --   Readable message  what the tests of a message ask
 --   readable, reads   they pass where it holds, and only there
 --   small             elements that pass are 32-bit values
-use mathlib.Core.Path.{_≡_, sym, ap, ap₂, subst}
+use mathlib.Core.Path.{_≡_, ap, ap₂}
 use mathlib.Core.Bool.{Bool, true, false, not, _||_}
 use mathlib.Core.List.{List}
 use Prim.Native.Nat.{ℕ, _+_, _*_, _^_, _<_, _≤_}
 use native.Mathlib.Omega.{arith}
-use lib.Dec.{T, eqb, ltb}
+use lib.Dec.{eqb, ltb}
 use lib.ListN.{length}
 use borrow.Author.Tests.{ltb-false, lt-ltb, le-ltb, eqb-true, eq-eqb, not-false}
 use Rattle.algebra.specs.Lists.{AllBelow, allBelow}
-use Rattle.algebra.proofs.Lists.{all-below}
+use Rattle.algebra.proofs.Lists.{all-below-test}
 use Rattle.algebra.proofs.Tests.{or-left, or-right}
 use Rattle.refusal.specs.Chain.{first, outside}
 use Rattle.refusal.proofs.Chains.{first-clear, first-append-clear, inside-high}
+use Rattle.refusal.proofs.Limits.{within-both}
 use Rattle.field.specs.Modulus.{moduli, modulus, noModulus}
 use Rattle.field.proofs.Moduli.{known-number}
 use Rattle.elements.specs.Bytes.{numberAt}
@@ -60,28 +60,22 @@ pub record Ranged (h : Header) : Type 0 where
   pub count : elementCount h ≤ 4096
 
 module _ (h : Header) where
-  pub sizes : sizeTest h ≡ false → (h .rows ≤ 16384) × (h .columns ≤ 16384)
-  unfolding sizeTest
-  sizes e =
-      let rows = outside 1 16384 (h .rows) in
-      let columns = outside 1 16384 (h .columns) in
-      (inside-high 1 16384 _ (or-left rows columns e), inside-high 1 16384 _ (or-right rows columns e))
-
   pub ranged : first (fieldTests h) ≡ 0 → Ranged h
-  unfolding fieldTests kindTest hostTest blockTest noModulus moduli
+  unfolding fieldTests kindTest hostTest sizeTest blockTest noModulus moduli
   ranged e =
       let kind = first-clear (kindTest h) 15 _ e in
       let number = first-clear (noModulus (h .modulus)) 0 _ (kind .1) in
       let host = first-clear (hostTest h) 11 _ (number .1) in
       let size = first-clear (sizeTest h) 1 _ (host .1) in
       let block = first-clear (blockTest h) 5 _ (size .1) in
+      let sides = within-both 16384 (h .rows) (h .columns) (size .0) in
       record {
         known = number .0;
         kind = inside-high 1 3 _ (kind .0);
         modulus = inside-high 1 3 _ (number .0);
         host = inside-high 1 64 _ (host .0);
-        rows = sizes (size .0) .0;
-        columns = sizes (size .0) .1;
+        rows = sides .0 .high;
+        columns = sides .1 .high;
         count = ltb-false 4096 _ (block .0);
         prime = known-number (h .modulus) (number .0) .small;
       }
@@ -147,5 +141,4 @@ module _ (message : List ℕ) where
 pub small : (h : Header) (xs : List ℕ) → Ranged h → elementTest (h .modulus) xs ≡ false → AllBelow (2 ^ 32) xs
 unfolding elementTest
 small h xs r e i l =
-    let t : T (allBelow (modulus (h .modulus)) xs) = subst T (sym (not-false (allBelow (modulus (h .modulus)) xs) e)) tt in
-    omega (arith, all-below (modulus (h .modulus)) xs t i l, r .prime)
+    omega (arith, all-below-test (modulus (h .modulus)) xs (not-false (allBelow (modulus (h .modulus)) xs) e) i l, r .prime)

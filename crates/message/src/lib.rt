@@ -41,13 +41,6 @@ pub enum Reading {
     Refused(u32),
 }
 
-// The largest sizes and numbers of 01.
-const MOST_SIDE: u32 = 16384;
-
-const MOST_ELEMENTS: u32 = 4096;
-
-const MOST_HOSTS: u32 = 64;
-
 // "MDO" as one number.
 const MARK: u32 = 0x4D444F;
 
@@ -72,7 +65,7 @@ fn kind_test(h: Header) -> bool
 fn host_test(h: Header) -> bool
     ensures { λ r. ⌜ r ≡ hostTest h ⌝ }
 {
-    outside(1, MOST_HOSTS, h.host)
+    outside(1, refusal::MOST_HOSTS, h.host)
 }
 
 // Rows or columns are out of range.
@@ -80,8 +73,8 @@ fn size_test(h: Header) -> bool
     ensures { λ r. ⌜ r ≡ sizeTest h ⌝ }
 {
     either(
-        outside(1, MOST_SIDE, h.rows),
-        outside(1, MOST_SIDE, h.columns),
+        outside(1, refusal::MOST_SIDE, h.rows),
+        outside(1, refusal::MOST_SIDE, h.columns),
     )
 }
 
@@ -101,7 +94,7 @@ fn field_refusal(h: Header) -> u32
     if size_test(h) {
         return refusal::SIZE;
     }
-    if MOST_ELEMENTS < h.rows * h.columns {
+    if refusal::MOST_ELEMENTS < h.rows * h.columns {
         return refusal::BLOCK;
     }
     0

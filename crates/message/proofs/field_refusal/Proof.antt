@@ -6,10 +6,10 @@ use native.Mathlib.Omega.{arith}
 use borrow.Author.Needs.{needs}
 use borrow.Author.Tests.{lt-ltb, le-ltb}
 use Rattle.refusal.proofs.Chains.{first-none, first-hit, first-miss}
+use Rattle.refusal.proofs.Limits.{within-both}
 use Rattle.field.specs.Modulus.{noModulus}
 use Rattle.field.proofs.Moduli.{none-named, known}
 use Rattle.message.specs.Format.{elementCount, kindTest, hostTest, sizeTest, blockTest, fieldTests}
-use Rattle.message.proofs.Fields.{sizes}
 use Rattle.message.proofs.field_refusal.Statement.{statement}
 use Rattle.message.proofs.field_refusal.Tie as tie
 
@@ -76,7 +76,8 @@ size-passed : (c : tie.Else3) → sizeTest (c .before .before .before .before .b
 size-passed c = sym (c .before .size-test .ensures) ∙ c .if3 .left
 
 mul-if4 : tie.Need-mul-if4
-mul-if4 c = let s = sizes _ (size-passed (c .before)) in omega (arith, mul-le-mul (s .0) (s .1))
+unfolding sizeTest
+mul-if4 c = let s = within-both 16384 _ _ (size-passed (c .before)) in omega (arith, mul-le-mul (s .0 .high) (s .1 .high))
 
 returns-5 : tie.Need-returns-5
 unfolding fieldTests blockTest elementCount
