@@ -1,8 +1,9 @@
 //! Lister cases that are ten well-formed numbers: every limit from both sides, faults in pairs,
 //! both layouts, ties, random plans and near misses.
 
+use crate::draw::{draw_cut, draw_in_layout, nudged};
 use crate::lister::{answer, text, Line};
-use crate::plan::{choose, layout_one, layout_two, refusal, Job};
+use crate::plan::{choose, refusal, Job};
 use crate::plan_check::all_cuts;
 use crate::random::Random;
 
@@ -259,27 +260,10 @@ fn longest(number: u32) -> Line {
         let layout = choose(job);
         layout.number == number && layout.needed <= 64
     });
-    let lines = chosen.map(|job| line_of(&job));
+    let lines = chosen.map(|job| job.line());
     lines
         .max_by_key(|line| answer(&text(line)).len())
         .expect("no cut fits")
-}
-
-/// A job's numbers as a line.
-fn line_of(job: &Job) -> Line {
-    let Job {
-        modulus,
-        t,
-        s,
-        r,
-        m,
-        p,
-        n,
-        x_a,
-        x_b,
-        hosts,
-    } = *job;
-    [modulus, t, s, r, m, p, n, x_a, x_b, hosts]
 }
 
 /// Each field of the example set to values that a shorter number type would mix up.
@@ -287,26 +271,6 @@ fn sweeps() -> Vec<Line> {
     let values = |own: u32| [own + 256, own + 65536, 99999];
     let changed = |field: usize| values(EXAMPLE[field]).map(|value| with(EXAMPLE, field, value));
     (0..10).flat_map(changed).collect()
-}
-
-/// A random cut with the wanted thresholds of layouts 1 and 2; every block holds one element.
-fn draw_cut(random: &mut Random, wanted: impl Fn(u32, u32) -> bool) -> Line {
-    loop {
-        let [m, p, n] = [8; 3].map(|most| random.within(1, most));
-        let [x_a, x_b] = [16; 2].map(|most| random.within(1, most));
-        let line = [random.within(2, 3), m, p, n, m, p, n, x_a, x_b, 64];
-        let job = Job::of_line(&line);
-        if wanted(layout_one(&job).needed, layout_two(&job).needed) {
-            return line;
-        }
-    }
-}
-
-/// A random cut whose chosen layout is 1, or else 2, and has a wanted threshold.
-fn draw_in_layout(random: &mut Random, first: bool, wanted: impl Fn(u32) -> bool) -> Line {
-    draw_cut(random, |one, two| {
-        wanted(one.min(two)) && (one <= two) == first
-    })
 }
 
 /// The recovery threshold of a line's chosen layout.
@@ -399,17 +363,4 @@ fn draw_near_miss(random: &mut Random, first: bool, twice: bool) -> Line {
     } else {
         once
     }
-}
-
-/// A line with one random number one lower, one higher, doubled, 0, or anything.
-fn nudged(random: &mut Random, line: Line) -> Line {
-    let field = random.index(line.len());
-    let old = line[field];
-    let value = match random.within(0, 5) {
-        0 | 1 => old.saturating_sub(1),
-        2 | 3 => old + 1,
-        4 => 2 * old,
-        _ => random.within(0, 99999),
-    };
-    with(line, field, value.min(99999))
 }

@@ -3,23 +3,47 @@
 //! It shares no code and no table with the proved crates. Each subject is a subcommand that
 //! checks itself, then writes its cases and the answers that are due to them.
 //!
-//!   random        a small deterministic generator with a fixed seed
-//!   cases         the file format of cases and answers
-//!   plan          the tests of a plan, both layouts, the recovery threshold K, the choice
-//!   plan_check    the plan against brute force and against the values checked by hand
-//!   lister        the plan lister's text in and out
-//!   lister_plans  lister cases that are well-formed: accepted plans and near misses
-//!   lister_texts  lister cases that are malformed text
-//!   lister_cases  the subcommand `lister`: all its cases, checked and written
+//!   random          a small deterministic generator with a fixed seed
+//!   plan            the tests of a plan, both layouts, the recovery threshold K, the choice
+//!   plan_check      the plan against brute force and against the values checked by hand
+//!   draw            random plans
+//!
+//!   lister          the plan lister's text in and out
+//!   lister_plans    lister cases that are well-formed: accepted plans and near misses
+//!   lister_texts    lister cases that are malformed text
+//!   cases           the file format of the lister's cases and answers
+//!   lister_cases    the subcommand `lister`: all its cases, checked and written
+//!
+//!   share           the shares of A and of B
+//!   product         a host's product
+//!   message         messages, written and read
+//!   faults          calls with faults put in, one or two at once
+//!   share_calls     cases of shares
+//!   product_calls   cases of products
+//!   message_calls   cases of messages to write, and of fit ones to read
+//!   message_damage  cases of damaged messages to read
+//!   calls           the file format of the calls' cases and answers
+//!   call_cases      the subcommand `calls`: all their cases, checked and written
 
+mod call_cases;
+mod calls;
 mod cases;
+mod draw;
+mod faults;
 mod lister;
 mod lister_cases;
 mod lister_plans;
 mod lister_texts;
+mod message;
+mod message_calls;
+mod message_damage;
 mod plan;
 mod plan_check;
+mod product;
+mod product_calls;
 mod random;
+mod share;
+mod share_calls;
 
 /// Picks the subject named on the command line.
 fn main() {
@@ -27,8 +51,9 @@ fn main() {
     let words: Vec<&str> = words.iter().map(String::as_str).collect();
     match words.as_slice() {
         ["lister", stdin_file, stdout_file] => lister_cases::write(stdin_file, stdout_file),
+        ["calls", stdin_file, stdout_file] => call_cases::write_files(stdin_file, stdout_file),
         _ => {
-            eprintln!("usage: reference lister STDIN_FILE STDOUT_FILE");
+            eprintln!("usage: reference lister|calls STDIN_FILE STDOUT_FILE");
             std::process::exit(2);
         }
     }

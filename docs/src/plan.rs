@@ -38,6 +38,23 @@ impl Job {
             hosts,
         }
     }
+
+    /// The job's numbers as a line of ten.
+    pub fn line(&self) -> [u32; 10] {
+        let Job {
+            modulus,
+            t,
+            s,
+            r,
+            m,
+            p,
+            n,
+            x_a,
+            x_b,
+            hosts,
+        } = *self;
+        [modulus, t, s, r, m, p, n, x_a, x_b, hosts]
+    }
 }
 
 /// The prime q that a modulus number stands for; there is none for any other number.
@@ -103,7 +120,7 @@ fn point_refusal(job: &Job, points: &[u32]) -> Option<u32> {
 }
 
 /// Whether each number lies in low..high, both included.
-fn all_within(numbers: &[u32], low: u32, high: u32) -> bool {
+pub fn all_within(numbers: &[u32], low: u32, high: u32) -> bool {
     numbers.iter().all(|number| (low..=high).contains(number))
 }
 

@@ -34,4 +34,14 @@ impl Random {
     pub fn byte(&mut self) -> u8 {
         (self.draw() >> 56) as u8
     }
+
+    /// A word of 32 bits.
+    pub fn word(&mut self) -> u32 {
+        (self.draw() >> 32) as u32
+    }
+
+    /// A list of elements below q.
+    pub fn elements(&mut self, count: usize, q: u32) -> Vec<u32> {
+        (0..count).map(|_| self.within(0, q - 1)).collect()
+    }
 }

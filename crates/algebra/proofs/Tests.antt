@@ -4,10 +4,14 @@
 --   and-left, and-right       the parts of a conjunction that passed
 --   both                      a conjunction from its parts
 --   or-left, or-right         the parts of a disjunction that failed
+--   or-all                    the three parts of one
+--   equal                     two numbers that passed the test of being equal
 use mathlib.Core.Path.{_≡_, refl}
-use mathlib.Core.Bool.{Bool, true, false, _&&_, _||_, true≢false}
+use mathlib.Core.Bool.{Bool, true, false, not, _&&_, _||_, true≢false}
 use mathlib.Core.Logic.{_⊎_, inl, inr}
-use lib.Dec.{T}
+use Prim.Native.Nat.{ℕ}
+use lib.Dec.{T, eqb}
+use borrow.Author.Tests.{eqb-true, not-false}
 
 pub by-test : (t : Bool) → (t ≡ true) ⊎ (t ≡ false)
 by-test true = inl refl
@@ -32,3 +36,11 @@ or-left false b e = refl
 pub or-right : (a b : Bool) → (a || b) ≡ false → b ≡ false
 or-right true b e = absurd (true≢false e)
 or-right false b e = e
+
+pub or-all : (a b c : Bool) → (a || b || c) ≡ false → (a ≡ false) × (b ≡ false) × (c ≡ false)
+or-all a b c e =
+    let two = or-left (a || b) c e in
+    (or-left a b two, or-right a b two, or-right (a || b) c e)
+
+pub equal : (a b : ℕ) → not (eqb a b) ≡ false → a ≡ b
+equal a b e = eqb-true a b (not-false (eqb a b) e)

@@ -3,16 +3,17 @@
 --   number-of-one, number-of-two, number-of-four    as `words` reads them
 --   length-elements, element-at                     the elements of bytes, one by one
 --   write-four                                      one more element is written as its four bytes
+--   written-exact                                   elements written where they just fit
 use mathlib.Core.Path.{_≡_, sym, ap, ap₂, _∙_}
 use mathlib.Core.List.{List, [], _∷_, _++_, append-nil}
-use Prim.Native.Nat.{ℕ, suc, _+_, _*_, _/_, _%_, _<_, _≤_}
+use Prim.Native.Nat.{ℕ, suc, _+_, _*_, _/_, _%_, _<_, _≤_, min}
 use native.Mathlib.Nat.{add-zero}
 use native.Mathlib.Numerals.{add-one}
 use native.Mathlib.Omega.{arith}
-use lib.ListN.{length, getD, take, drop, set}
-use lib.Seq.{take-suc, take-at, drop-drop, drop-append-add, length-take-le, sets-eq}
+use lib.ListN.{length, getD, take, drop, set, drop-of-length-le}
+use lib.Seq.{take-suc, take-length, take-at, drop-drop, drop-append-add, length-take-le, sets-eq}
 use Rattle.algebra.proofs.Lists.{length-tab, getD-tab}
-use Rattle.elements.specs.Bytes.{bigEndian, numberAt, bytesOf, elementsOf}
+use Rattle.elements.specs.Bytes.{bigEndian, numberAt, bytesOf, elementsOf, common}
 use Rattle.elements.proofs.Bytes.{length-bytesOf, bytesOf-append}
 
 module _ (bytes : List ℕ) (at : ℕ) where
@@ -79,3 +80,9 @@ module _ (xs rest out : List ℕ) (i : ℕ) (is : out ≡ bytesOf (take i xs) ++
       stores out (i * 4) _ _ _ _ (omega arith)
       ∙ ap₂ (λ (l r : List ℕ). l ++ (x / 16777216 % 256 ∷ x / 65536 % 256 ∷ x / 256 % 256 ∷ x % 256 ∷ []) ++ r) front back
       ∙ ap (λ (l : List ℕ). l ++ drop ((i + 1) * 4) rest) more
+
+pub written-exact : (out xs : List ℕ) → length out ≡ 4 * length xs → bytesOf (take (common out xs) xs) ++ drop (common out xs * 4) out ≡ bytesOf xs
+unfolding common
+written-exact out xs same =
+    let all : min (length out / 4) (length xs) ≡ length xs = omega arith in
+    rw (all, take-length xs, drop-of-length-le out {i = length xs * 4} (omega arith)) (append-nil (bytesOf xs))

@@ -13,10 +13,10 @@ use native.Mathlib.Nat.{suc-ne-zero, not-suc-le-zero, eq-or-lt-of-le, le-of-suc-
 use native.Mathlib.Omega.{arith}
 use lib.Dec.{eqb, leb}
 use lib.ListN.{length, getD, take}
-use borrow.Author.Tests.{ltb-false, leb-false, eqb-true, eqb-false, not-false}
+use borrow.Author.Tests.{ltb-false, leb-false, eqb-false}
 use Rattle.algebra.specs.Lists.{AllBelow, Distinct}
 use Rattle.algebra.proofs.Orders.{le-or-lt}
-use Rattle.algebra.proofs.Tests.{or-left, or-right}
+use Rattle.algebra.proofs.Tests.{or-left, or-right, or-all, equal}
 use Rattle.refusal.specs.Chain.{Row, first, answer, outside}
 use Rattle.refusal.proofs.Chains.{first-clear, first-append-clear, first-append-hit, numbered, inside-low, inside-high}
 use Rattle.refusal.proofs.Limits.{blocks-fit}
@@ -51,9 +51,6 @@ pub record Facts (job : Job) (points : List ℕ) : Type 0 where
   pub points-below : AllBelow (prime job) points
   pub points-distinct : Distinct points
 
-zero-rest : (a b : ℕ) → not (eqb a b) ≡ false → a ≡ b
-zero-rest a b e = eqb-true a b (not-false (eqb a b) e)
-
 module _ (job : Job) (modulus : noModulus (job .modulus) ≡ false) (range : first (rangeTests job) ≡ 0) (fit : first (fitTests job) ≡ 0) where
   fits-of : Fits job
   unfolding fitTests divisionTest blockTest hostsTest neededTest prime
@@ -62,18 +59,16 @@ module _ (job : Job) (modulus : noModulus (job .modulus) ≡ false) (range : fir
       let block = first-clear (blockTest job) 5 _ (division .1) in
       let hosts = first-clear (hostsTest job) 6 _ (block .1) in
       let needed = first-clear (neededTest job) 7 _ (hosts .1) in
-      let d1 = not (eqb (job .t % job .m) 0) in
-      let d2 = not (eqb (job .s % job .p) 0) in
-      let d3 = not (eqb (job .r % job .n) 0) in
+      let whole = or-all (not (eqb (job .t % job .m) 0)) (not (eqb (job .s % job .p) 0)) (not (eqb (job .r % job .n) 0)) (division .0) in
       let small = blocks-fit (blockRows job) (blockInner job) (blockColumns job) (block .0) in
       let h1 = outside 1 64 (job .hosts) in
       let h2 = leb (prime job) (job .hosts) in
       record {
         known = known-number (job .modulus) modulus;
         ranged = ranged job range;
-        divides-t = zero-rest _ 0 (or-left d1 d2 (or-left (d1 || d2) d3 (division .0)));
-        divides-s = zero-rest _ 0 (or-right d1 d2 (or-left (d1 || d2) d3 (division .0)));
-        divides-r = zero-rest _ 0 (or-right (d1 || d2) d3 (division .0));
+        divides-t = equal _ 0 (whole .0);
+        divides-s = equal _ 0 (whole .1);
+        divides-r = equal _ 0 (whole .2);
         block-a = small .0;
         block-b = small .1;
         block-c = small .2;
@@ -132,7 +127,7 @@ module _ (job : Job) (points : List ℕ) where
       let one = each (prime job) points (length points) (size .1) in
       record {
         fits = fits-of job (modulus .0) (range .0) (fit .0);
-        points-length = zero-rest (length points) (job .hosts) (size .0);
+        points-length = equal (length points) (job .hosts) (size .0);
         points-pos = λ i h. pos (prime job) points i (one i h);
         points-below = λ i h. below (prime job) points i (one i h);
         points-distinct = λ i j hi hj s.

@@ -4,15 +4,14 @@
 --   done       by 0: the output holds the product
 --   passed     what the tests 2, 6 and 13 leave: sizes and lengths
 use mathlib.Core.Path.{_≡_, sym, ap, _∙_}
-use mathlib.Core.Bool.{false, not, _||_}
+use mathlib.Core.Bool.{false, not}
 use mathlib.Core.List.{List}
 use Prim.Native.Nat.{ℕ, _*_, _≤_}
 use native.Mathlib.Omega.{arith}
 use native.Mathlib.Nat.{mul-le-mul-right}
 use lib.Dec.{eqb}
 use lib.ListN.{length}
-use borrow.Author.Tests.{eqb-true, not-false}
-use Rattle.algebra.proofs.Tests.{or-left, or-right}
+use Rattle.algebra.proofs.Tests.{or-all, equal}
 use Rattle.refusal.specs.Chain.{first, answer}
 use Rattle.refusal.specs.Limits.{sizesOutside, overBlock}
 use Rattle.refusal.proofs.Chains.{answer-done, answer-refused}
@@ -48,24 +47,19 @@ pub record Passed (rows inner columns a b out : ℕ) : Type 0 where
   pub block-a : rows * inner ≤ 4096
   pub block-c : rows * columns ≤ 4096
 
-equal : (a b : ℕ) → not (eqb a b) ≡ false → a ≡ b
-equal a b e = eqb-true a b (not-false (eqb a b) e)
-
 pub passed : (rows inner columns a b out : ℕ) → sizesOutside rows inner columns ≡ false → overBlock rows inner columns ≡ false
     → lengthTest rows inner columns a b out ≡ false → Passed rows inner columns a b out
 unfolding sizesOutside lengthTest
 passed rows inner columns a b out size block len =
     let sizes = within-all 16384 rows inner columns size in
     let blocks = blocks-fit rows inner columns block in
-    let la = not (eqb a (rows * inner)) in
-    let lb = not (eqb b (inner * columns)) in
-    let lc = not (eqb out (rows * columns)) in
+    let each = or-all (not (eqb a (rows * inner))) (not (eqb b (inner * columns))) (not (eqb out (rows * columns))) len in
     let one-row : 1 * inner ≤ rows * inner = mul-le-mul-right inner (sizes .0 .low) in
     let one-line : 1 * columns ≤ rows * columns = mul-le-mul-right columns (sizes .0 .low) in
     record {
-      length-a = equal _ _ (or-left la lb (or-left (la || lb) lc len));
-      length-b = equal _ _ (or-right la lb (or-left (la || lb) lc len));
-      length-out = equal _ _ (or-right (la || lb) lc len);
+      length-a = equal _ _ (each .0);
+      length-b = equal _ _ (each .1);
+      length-out = equal _ _ (each .2);
       few = omega (arith, one-row, blocks .0);
       thin = omega (arith, one-line, blocks .2);
       block-a = blocks .0;

@@ -8,7 +8,7 @@ use mathlib.Core.Bool.{false, _||_}
 use Prim.Native.Nat.{ℕ, _*_, _≤_}
 use lib.Dec.{ltb}
 use borrow.Author.Tests.{ltb-false}
-use Rattle.algebra.proofs.Tests.{or-left, or-right}
+use Rattle.algebra.proofs.Tests.{or-left, or-right, or-all}
 use Rattle.refusal.specs.Chain.{outside}
 use Rattle.refusal.specs.Limits.{anyOutside, overBlock}
 use Rattle.refusal.proofs.Chains.{inside-low, inside-high}
@@ -27,14 +27,12 @@ within-both most a b e =
 pub within-all : (most a b c : ℕ) → anyOutside most a b c ≡ false → Within most a × Within most b × Within most c
 unfolding anyOutside
 within-all most a b c e =
-    let two = within-both most a b (or-left (outside 1 most a || outside 1 most b) (outside 1 most c) e) in
-    (two .0, two .1, within most c (or-right (outside 1 most a || outside 1 most b) (outside 1 most c) e))
+    let each = or-all (outside 1 most a) (outside 1 most b) (outside 1 most c) e in
+    (within most a (each .0), within most b (each .1), within most c (each .2))
 
 pub blocks-fit : (rows inner columns : ℕ) → overBlock rows inner columns ≡ false
     → (rows * inner ≤ 4096) × (inner * columns ≤ 4096) × (rows * columns ≤ 4096)
 unfolding overBlock
 blocks-fit rows inner columns e =
-    let a = ltb 4096 (rows * inner) in
-    let b = ltb 4096 (inner * columns) in
-    let c = ltb 4096 (rows * columns) in
-    (ltb-false 4096 _ (or-left a b (or-left (a || b) c e)), ltb-false 4096 _ (or-right a b (or-left (a || b) c e)), ltb-false 4096 _ (or-right (a || b) c e))
+    let each = or-all (ltb 4096 (rows * inner)) (ltb 4096 (inner * columns)) (ltb 4096 (rows * columns)) e in
+    (ltb-false 4096 _ (each .0), ltb-false 4096 _ (each .1), ltb-false 4096 _ (each .2))

@@ -1,0 +1,2 @@
+-- The host's product on bytes.
+pub mod Host
