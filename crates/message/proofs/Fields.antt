@@ -15,10 +15,10 @@ use Prim.Native.Nat.{ℕ, _+_, _*_, _^_, _<_, _≤_}
 use native.Mathlib.Omega.{arith}
 use lib.Dec.{eqb, ltb}
 use lib.ListN.{length}
-use borrow.Author.Tests.{ltb-false, lt-ltb, le-ltb, eqb-true, eq-eqb, not-false}
+use borrow.Author.Tests.{ltb-false, lt-ltb, le-ltb, eq-eqb, not-false}
 use Rattle.algebra.specs.Lists.{AllBelow, allBelow}
 use Rattle.algebra.proofs.Lists.{all-below-test}
-use Rattle.algebra.proofs.Tests.{or-left, or-right}
+use Rattle.algebra.proofs.Tests.{or-left, or-right, equal}
 use Rattle.refusal.specs.Chain.{first, outside}
 use Rattle.refusal.proofs.Chains.{first-clear, first-append-clear, inside-high}
 use Rattle.refusal.proofs.Limits.{within-both}
@@ -29,10 +29,7 @@ use Rattle.message.specs.declared.Header.{Header}
 use Rattle.message.proofs.Tests.{fields-numbered, write-none, told-none}
 use Rattle.message.specs.Format.{mark, version, headerOf, elementCount, elements, kindTest, hostTest, sizeTest, blockTest, fieldTests, elementTest, writeLengthTest, writeTests, markTest, versionTest, lengthTest, messageTests}
 
--- two numbers that a test found equal, and the test where they are
-same : (a b : ℕ) → not (eqb a b) ≡ false → a ≡ b
-same a b e = eqb-true a b (not-false (eqb a b) e)
-
+-- the test of two numbers that are equal
 alike : (a b : ℕ) → a ≡ b → not (eqb a b) ≡ false
 alike a b e = ap not (eq-eqb a b e)
 
@@ -97,8 +94,8 @@ module _ (h : Header) where
         let whole = not (eqb room (16 + 4 * elementCount h)) in
         record {
           fields = fields .0;
-          count = same _ _ (or-left count whole (lengths .0));
-          room = same _ _ (or-right count whole (lengths .0));
+          count = equal _ _ (or-left count whole (lengths .0));
+          room = equal _ _ (or-right count whole (lengths .0));
           below = below .0;
         }
 
@@ -126,10 +123,10 @@ module _ (message : List ℕ) where
       let whole = first-clear (lengthTest message) 19 _ (fields .1) in
       let below = first-clear (elementTest (headerOf message .modulus) (elements message)) 13 _ (whole .1) in
       record {
-        mark = same _ _ (mark .0);
-        version = same _ _ (version .0);
+        mark = equal _ _ (mark .0);
+        version = equal _ _ (version .0);
         fields = fields .0;
-        whole = same _ _ (whole .0);
+        whole = equal _ _ (whole .0);
         below = below .0;
       }
 

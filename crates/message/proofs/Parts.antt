@@ -6,14 +6,14 @@
 --   written-part          what writing a header and then this part leaves
 use mathlib.Core.Path.{_≡_, ap, ap₂, _∙_}
 use mathlib.Core.List.{List, _++_, append-nil}
-use Prim.Native.Nat.{ℕ, _+_, _*_, _/_, _-_, _≤_, min}
-use native.Mathlib.Nat.{le-refl, min-eq-left}
+use Prim.Native.Nat.{ℕ, _+_, _*_, _/_, _-_, _≤_}
 use native.Mathlib.Omega.{arith}
 use lib.ListN.{length, take, drop, length-drop, drop-of-length-le}
 use lib.Seq.{take-all, take-length, take-at}
 use Rattle.text.specs.Decimal.{put}
 use Rattle.text.proofs.Puts.{put-fits, length-put}
 use Rattle.elements.specs.Bytes.{bytesOf, elementsOf, common}
+use Rattle.elements.proofs.Words.{written-exact}
 use Rattle.message.specs.declared.Header.{Header}
 use Rattle.message.specs.Format.{header, messageOf, headerOf, elementCount, payload, elements}
 use Rattle.message.proofs.Headers.{length-header}
@@ -28,12 +28,6 @@ module _ (bytes : List ℕ) (n : ℕ) (whole : length bytes ≡ 16 + 4 * n) wher
   length-rest : length (Rest bytes) ≡ 4 * n
   length-rest = ap length rest ∙ omega (arith, length-drop 16 bytes)
 
-  common-rest : (xs : List ℕ) → n ≤ length xs → common (Rest bytes) xs ≡ n
-  unfolding common
-  common-rest xs h =
-      let quarter : length (Rest bytes) / 4 ≡ n = omega (arith, length-rest) in
-      ap (λ (k : ℕ). min k (length xs)) quarter ∙ min-eq-left h
-
 module _ (message : List ℕ) (whole : length message ≡ 16 + 4 * elementCount (headerOf message)) where
   pub elements-part : elementsOf (length (Rest message) / 4) (Rest message) ≡ elements message
   unfolding elements payload
@@ -45,9 +39,10 @@ module _ (message : List ℕ) (whole : length message ≡ 16 + 4 * elementCount 
   pub read-part : (out : List ℕ) → elementCount (headerOf message) ≤ length out
       → elementsOf (common (Rest message) out) (Rest message) ++ drop (common (Rest message) out) out
       ≡ elements message ++ drop (elementCount (headerOf message)) out
-  unfolding elements payload
+  unfolding elements payload common
   read-part out h =
-      let count = common-rest message (elementCount (headerOf message)) whole out h in
+      let n = length-rest message (elementCount (headerOf message)) whole in
+      let count : common (Rest message) out ≡ elementCount (headerOf message) = omega arith in
       ap₂ (λ (n : ℕ) (p : List ℕ). elementsOf n p ++ drop n out) count (rest message (elementCount (headerOf message)) whole)
 
 module _ (h : Header) (xs out out′ part : List ℕ) (whole : length out ≡ 16 + 4 * length xs) (head : out′ ≡ put out 0 (header h))
@@ -63,13 +58,7 @@ module _ (h : Header) (xs out out′ part : List ℕ) (whole : length out ≡ 16
       ∙ take-at (header h) (drop (0 + length (header h)) out) 16 (length-header h)
 
   body-is : part ≡ bytesOf xs
-  body-is =
-      let count = common-rest out′ (length xs) same-length xs (le-refl (length xs)) in
-      body
-      ∙ ap (λ (n : ℕ). bytesOf (take n xs) ++ drop (n * 4) (Rest out′)) count
-      ∙ ap₂ (λ (ys zs : List ℕ). bytesOf ys ++ zs) (take-length xs)
-      (drop-of-length-le (Rest out′) {i = length xs * 4} (omega (arith, length-rest out′ (length xs) same-length)))
-      ∙ append-nil (bytesOf xs)
+  body-is = body ∙ written-exact (Rest out′) xs (length-rest out′ (length xs) same-length)
 
   pub written-part : take 16 out′ ++ (part ++ drop (length out′ - 16) (drop 16 out′)) ≡ messageOf h xs
   unfolding messageOf

@@ -49,7 +49,7 @@ const HEADER_BYTES: usize = 16;
 // How many elements the output of reading has room for at least.
 const READ_ROOM: usize = 4096;
 
-// Kind: an A share, a B share or an answer; the rest is refused.
+// The kind is not that of an A share, a B share or an answer.
 fn kind_test(h: Header) -> bool
     ensures { λ r. ⌜ r ≡ kindTest h ⌝ }
 {
