@@ -1,14 +1,15 @@
 -- Laws of numbers and elements as bytes.
 --
 --   length-bigEndian            as many bytes as the width
---   bigEndian-bytes             each below 256
+--   below-append                small numbers after small numbers
+--   bigEndian-bytes             each byte is below 256
 --   numberAt-front              more bytes after it change no number
 --   numberAt-past               nor do some before it, by which its place moves
 --   numberAt-bigEndian          a number reads back from its bytes
 --   bigEndian-numberAt          bytes come back from the number that they hold
 --   length-bytesOf              4 bytes for each element
 --   bytesOf-append              one list of elements after another
---   bytesOf-bytes               each byte is below 256
+--   bytesOf-bytes               each of them is below 256
 --   elements-of-bytes           elements read back from their bytes
 --   bytes-of-elements           bytes come back from the elements that they hold
 use mathlib.Core.Path.{_≡_, refl, sym, ap, ap₂, _∙_}
@@ -28,7 +29,7 @@ length-bigEndian zero x = refl
 length-bigEndian (suc width) x =
     omega (arith, length-append (bigEndian width (x / 256)) (x % 256 ∷ []), length-bigEndian width (x / 256))
 
-below-append : (q : ℕ) (xs ys : List ℕ) → AllBelow q xs → AllBelow q ys → AllBelow q (xs ++ ys)
+pub below-append : (q : ℕ) (xs ys : List ℕ) → AllBelow q xs → AllBelow q ys → AllBelow q (xs ++ ys)
 below-append q [] ys b c i h = c i h
 below-append q (x ∷ xs) ys b c zero h = b 0 (omega arith)
 below-append q (x ∷ xs) ys b c (suc i) h = below-append q xs ys (λ j l. b (suc j) (omega arith)) c i (le-of-suc-le-suc h)

@@ -1,0 +1,101 @@
+-- What the calls answer and leave, by their tests.
+--
+--   written-done, written-refused    what writing leaves
+--   done-by, refused-by              what looking a message over answers
+--   examined-done, examined-refused  and what this tells of its tests
+--   examined-number, read-number     the number of an answer is that of the first test that fits
+--   read-short                       the output of reading is too short
+--   read-long                        it is long enough: reading tells what looking over does
+--   read-done                        what reading then leaves
+--   kept-short, kept                 what it leaves where it is refused
+use mathlib.Core.Path.{_≡_, refl, sym, ap, _∙_}
+use mathlib.Core.List.{List, _++_}
+use Prim.Native.Nat.{ℕ, zero, suc, _<_, _≤_}
+use native.Mathlib.Nat.{suc-ne-zero}
+use lib.ListN.{length, drop}
+use borrow.Author.Tests.{lt-ltb, le-ltb}
+use Rattle.refusal.specs.Chain.{first, answer}
+use Rattle.refusal.proofs.Chains.{first-hit, first-miss, answer-done, answer-refused}
+use Rattle.message.specs.declared.Header.{Header}
+use Rattle.message.specs.declared.Reading.the-variants.{Done, Refused}
+use Rattle.message.specs.Format.{messageOf, headerOf, elementCount, elements, writeTests, messageTests, readTests, written, examined, readAs, readInto, numberOf}
+
+module _ (h : Header) (xs out : List ℕ) where
+  pub written-done : first (writeTests h xs (length out)) ≡ 0 → written h xs out ≡ messageOf h xs
+  unfolding written
+  written-done e = answer-done (messageOf h xs) (λ n. out) _ e
+
+  pub written-refused : (first (writeTests h xs (length out)) ≡ 0 → ⊥) → written h xs out ≡ out
+  unfolding written
+  written-refused ne = answer-refused (messageOf h xs) (λ n. out) _ ne
+
+number-told : (h : Header) (n : ℕ) → numberOf (answer n (Done h) Refused) ≡ n
+unfolding answer
+number-told h zero = refl
+number-told h (suc n) = refl
+
+module _ (message : List ℕ) where
+  pub done-by : {h : Header} → h ≡ headerOf message → first (messageTests message) ≡ 0 → Done h ≡ examined message
+  unfolding examined
+  done-by same e = ap Done same ∙ sym (answer-done (Done (headerOf message)) Refused _ e)
+
+  pub refused-by : (n : ℕ) → (n ≡ 0 → ⊥) → first (messageTests message) ≡ n → Refused n ≡ examined message
+  unfolding examined
+  refused-by n ne e = sym (ap (λ (k : ℕ). answer k (Done (headerOf message)) Refused) e ∙ answer-refused (Done (headerOf message)) Refused n ne)
+
+  pub examined-done : {h : Header} → examined message ≡ Done h → (first (messageTests message) ≡ 0) × (h ≡ headerOf message)
+  unfolding examined answer
+  examined-done {h} e = go (first (messageTests message)) refl e
+    where
+      go : (n : ℕ) → first (messageTests message) ≡ n → answer n (Done (headerOf message)) Refused ≡ Done h
+          → (first (messageTests message) ≡ 0) × (h ≡ headerOf message)
+      go zero is e = (is, cc)
+      go (suc n) is e = let z : _≡_ {A = ℕ} 1 0 = cc in absurd (suc-ne-zero 0 z)
+
+  pub examined-refused : {n : ℕ} → examined message ≡ Refused n → (first (messageTests message) ≡ n) × (n ≡ 0 → ⊥)
+  unfolding examined answer
+  examined-refused {n} e = go (first (messageTests message)) refl e
+    where
+      go : (k : ℕ) → first (messageTests message) ≡ k → answer k (Done (headerOf message)) Refused ≡ Refused n
+          → (first (messageTests message) ≡ n) × (n ≡ 0 → ⊥)
+      go zero is e = let z : _≡_ {A = ℕ} 1 0 = cc in absurd (suc-ne-zero 0 z)
+      go (suc k) is e = let same : suc k ≡ n = cc in (is ∙ same, λ z. suc-ne-zero k (same ∙ z))
+
+  pub examined-number : numberOf (examined message) ≡ first (messageTests message)
+  unfolding examined
+  examined-number = number-told (headerOf message) (first (messageTests message))
+
+  module _ (room : ℕ) where
+    pub read-number : numberOf (readAs message room) ≡ first (readTests message room)
+    unfolding readAs
+    read-number = number-told (headerOf message) (first (readTests message room))
+
+    short-tests : room < 4096 → first (readTests message room) ≡ 13
+    unfolding readTests
+    short-tests l = first-hit _ 13 _ (lt-ltb room 4096 l)
+
+    pub read-short : room < 4096 → readAs message room ≡ Refused 13
+    unfolding readAs answer
+    read-short l = ap (λ (n : ℕ). answer n (Done (headerOf message)) Refused) (short-tests l)
+
+    read-tests : 4096 ≤ room → first (readTests message room) ≡ first (messageTests message)
+    unfolding readTests
+    read-tests l = first-miss _ 13 _ (le-ltb room 4096 l)
+
+    pub read-long : 4096 ≤ room → readAs message room ≡ examined message
+    unfolding readAs examined
+    read-long l = ap (λ (n : ℕ). answer n (Done (headerOf message)) Refused) (read-tests l)
+
+  module _ (out : List ℕ) where
+    pub read-done : 4096 ≤ length out → first (messageTests message) ≡ 0
+        → readInto message out ≡ elements message ++ drop (elementCount (headerOf message)) out
+    unfolding readInto
+    read-done l e = answer-done _ (λ n. out) _ (read-tests (length out) l ∙ e)
+
+    pub kept-short : length out < 4096 → readInto message out ≡ out
+    unfolding readInto
+    kept-short l = answer-refused _ (λ n. out) _ (λ z. suc-ne-zero 12 (sym (short-tests (length out) l) ∙ z))
+
+    pub kept : 4096 ≤ length out → (first (messageTests message) ≡ 0 → ⊥) → readInto message out ≡ out
+    unfolding readInto
+    kept l ne = answer-refused _ (λ n. out) _ (λ z. ne (sym (read-tests (length out) l) ∙ z))

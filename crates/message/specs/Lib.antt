@@ -1,0 +1,3 @@
+-- Messages: their bytes, the tests of writing and reading, and both round trips.
+pub mod Format
+pub mod RoundTrips
