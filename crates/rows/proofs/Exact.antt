@@ -3,7 +3,8 @@
 --   combination-bound     a combination whose terms are each at most b
 --   combination-below     a combination of elements below q
 --   combination-fits      at most 4096 weights, all below a prime of ours
---   added-exact           sums that stay below 2 ^ 64
+--   added-more            sums that are known modulo 2 ^ 64
+--   added-exact           sums that stay below it
 --   added-zeros           the same, from sums that are all 0
 --   reduced-tab           as many sums as the output has room for
 use mathlib.Core.Path.{_≡_, refl, ap, _∙_}
@@ -39,16 +40,24 @@ module _ (weights source : List ℕ) (stride : ℕ) where
       let pos = prime-prime m .above-one in
       omega (arith, sums-fit m, combination-below j (prime m) (omega arith) hw hs, mul-le-mul-right (prime m * prime m) few)
 
-  pub added-exact : (f : ℕ → ℕ) (n : ℕ) (sums : List ℕ) → sums ≡ tab f n → ((j : ℕ) → j < n → f j + combination weights source stride j < 2 ^ 64)
-      → added sums weights source stride ≡ tab (λ j. f j + combination weights source stride j) n
+  pub added-more : (f : ℕ → ℕ) (n : ℕ) (sums : List ℕ) → sums ≡ tab (λ j. f j % 2 ^ 64) n
+      → added sums weights source stride ≡ tab (λ j. (f j + combination weights source stride j) % 2 ^ 64) n
   unfolding added
-  added-exact f n sums e small =
-      let all : length sums ≡ n = ap length e ∙ length-tab f n in
+  added-more f n sums e =
+      let all : length sums ≡ n = ap length e ∙ length-tab _ n in
       ap (tab (λ j. (getD sums j 0 + combination weights source stride j) % 2 ^ 64)) all
       ∙ tab-cong _ _ n (λ j l.
+      let before : getD sums j 0 ≡ f j % 2 ^ 64 = ap (λ (xs : List ℕ). getD xs j 0) e ∙ getD-tab _ n j 0 l in
+      let same : (getD sums j 0 + combination weights source stride j) % 2 ^ 64 ≡ (f j + combination weights source stride j) % 2 ^ 64 = omega arith in
+      same)
+
+  pub added-exact : (f : ℕ → ℕ) (n : ℕ) (sums : List ℕ) → sums ≡ tab f n → ((j : ℕ) → j < n → f j + combination weights source stride j < 2 ^ 64)
+      → added sums weights source stride ≡ tab (λ j. f j + combination weights source stride j) n
+  added-exact f n sums e small =
+      added-more f n sums (e ∙ tab-cong f _ n (λ j l. let fits = small j l in let own : f j ≡ f j % 2 ^ 64 = omega arith in own))
+      ∙ tab-cong _ _ n (λ j l.
       let fits = small j l in
-      let before : getD sums j 0 ≡ f j = ap (λ (xs : List ℕ). getD xs j 0) e ∙ getD-tab f n j 0 l in
-      let exact : (getD sums j 0 + combination weights source stride j) % 2 ^ 64 ≡ f j + combination weights source stride j = omega arith in
+      let exact : (f j + combination weights source stride j) % 2 ^ 64 ≡ f j + combination weights source stride j = omega arith in
       exact)
 
   pub added-zeros : (sums : List ℕ) → ((j : ℕ) → j < length sums → combination weights source stride j < 2 ^ 64)

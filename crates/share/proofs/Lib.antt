@@ -1,0 +1,2 @@
+-- Laws of sharing.
+pub mod Places

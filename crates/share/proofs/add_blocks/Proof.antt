@@ -1,0 +1,205 @@
+-- `share::add_blocks` meets its contract.
+use mathlib.Core.Path.{ap₂}
+use native.Mathlib.Nat.{add-sub-cancel-left}
+use native.Mathlib.Numerals.{add-one}
+use lib.ListN.{length-drop}
+use lib.Seq.{take-all}
+use Rattle.rows.specs.Combination.{added}
+use Rattle.rows.proofs.Steps.{upTo}
+use Rattle.rows.proofs.Exact.{added-more}
+use Rattle.algebra.proofs.Grids.{tab-cong}
+use Rattle.share.specs.Weights.{weightCount}
+use mathlib.Core.List.{List}
+use lib.ListN.{take, drop}
+use Rattle.rows.specs.Combination.{combination}
+use mathlib.Core.Path.{_≡_, refl, ap, _∙_}
+use mathlib.Core.List.{[]}
+use Prim.Native.Nat.{ℕ, _+_, _-_, _*_, _%_, _^_, _≤_}
+use native.Mathlib.Nat.{mul-le-mul}
+use native.Mathlib.Omega.{arith}
+use borrow.Author.Needs.{needs}
+use lib.ListN.{length, getD}
+use Rattle.algebra.specs.Lists.{tab}
+use Rattle.algebra.specs.Sums.{sum}
+use Rattle.rows.proofs.Steps.{up-to-none}
+use Rattle.share.specs.Weights.{blockTerms}
+use Rattle.share.proofs.Places.{placed}
+use Rattle.share.proofs.add_blocks.Statement.{statement}
+use Rattle.share.proofs.add_blocks.Tie as tie
+
+-- one more part
+terms-step : (sums : List ℕ) (f : ℕ → ℕ → ℕ) (k : ℕ)
+    → tab (λ j. (getD sums j 0 + sum k (λ h. f h j) + f k j) % 2 ^ 64) (length sums) ≡ tab (λ j. (getD sums j 0 + sum (k + 1) (λ h. f h j)) % 2 ^ 64) (length sums)
+unfolding sum
+terms-step sums f k =
+    rw add-one (tab-cong _ _ (length sums) (λ j l. let same : (getD sums j 0 + sum k (λ h. f h j) + f k j) % 2 ^ 64 ≡ (getD sums j 0 + (sum k (λ h. f h j) + f k j)) % 2 ^ 64 = omega arith in same))
+
+-- the part of row h of the blocks
+abbrev part : ℕ → ℕ → ℕ → ℕ → List ℕ → List ℕ → ℕ → ℕ → ℕ → ℕ
+part across rows columns width weights xs i h j = combination (take across (drop (h * across) weights)) (drop ((h * rows + i) * width) xs) columns j
+
+abbrev Inv-loop : tie.InvT-loop
+Inv-loop i weights xs sums₀ down across rows columns width k₀ sums k =
+    record {
+      is : sums ≡ tab (λ j. (getD sums₀ j 0 + sum k (λ h. part across rows columns width weights xs i h j)) % 2 ^ 64) (length sums₀);
+      short : k ≤ down;
+      same : length sums ≡ length sums₀;
+    }
+
+abbrev μ-loop : tie.MeasureT-loop
+μ-loop i weights xs sums₀ down across rows columns width k₀ sums k = down - k
+
+mul-width : tie.Need-mul-width Inv-loop μ-loop
+mul-width c = let e = c .before .before .before in omega (arith, mul-le-mul (e .pre .0 .across) (e .pre .0 .columns))
+
+loop-holds : tie.Need-loop-holds Inv-loop μ-loop
+unfolding upTo sum
+loop-holds c =
+    let a = c .before .before .before .args in
+    record { is = up-to-none (a .sums .now) [] [] 0 (λ j l. c .slice-known .given j .fits); short = omega arith; same = refl }
+
+mul-start : tie.Need-mul-start Inv-loop μ-loop
+mul-start c =
+    let e = c .before .before .before .before .before in
+    let p = placed (e .args .s) (c .before .loop .k) (e .args .i) (e .pre .0) (c .loop-test .taken) (e .pre .1) in
+    omega (arith, p, e .pre .2, e .pre .3)
+
+add-end : tie.Need-add-end Inv-loop μ-loop
+add-end c =
+    let e = c .before .before .before .before .before in
+    let p = placed (e .args .s) (c .before .loop .k) (e .args .i) (e .pre .0) (c .loop-test .taken) (e .pre .1) in
+    omega (arith, p, e .pre .2, e .pre .3)
+
+mul-from : tie.Need-mul-from Inv-loop μ-loop
+mul-from c =
+    let e = c .before .before .before .before .before in
+    let p = placed (e .args .s) (c .before .loop .k) (e .args .i) (e .pre .0) (c .loop-test .taken) (e .pre .1) in
+    omega (arith, p, e .pre .2, e .pre .3)
+
+add-from : tie.Need-add-from Inv-loop μ-loop
+add-from c =
+    let e = c .before .before .before .before .before in
+    let p = placed (e .args .s) (c .before .loop .k) (e .args .i) (e .pre .0) (c .loop-test .taken) (e .pre .1) in
+    omega (arith, p, e .pre .2, e .pre .3)
+
+mul-from-2 : tie.Need-mul-from-2 Inv-loop μ-loop
+mul-from-2 c =
+    let e = c .before .before .before .before .before in
+    let p = placed (e .args .s) (c .before .loop .k) (e .args .i) (e .pre .0) (c .loop-test .taken) (e .pre .1) in
+    omega (arith, p, e .pre .2, e .pre .3)
+
+mul-add-rows : tie.Need-mul-add-rows Inv-loop μ-loop
+mul-add-rows c =
+    let e = c .before .before .before .before .before .before in
+    let p = placed (e .args .s) (c .before .before .loop .k) (e .args .i) (e .pre .0) (c .before .loop-test .taken) (e .pre .1) in
+    omega (arith, p, e .pre .2, e .pre .3)
+
+sub-add-rows : tie.Need-sub-add-rows Inv-loop μ-loop
+sub-add-rows c =
+    let e = c .before .before .before .before .before .before in
+    let p = placed (e .args .s) (c .before .before .loop .k) (e .args .i) (e .pre .0) (c .before .loop-test .taken) (e .pre .1) in
+    omega (arith, p, e .pre .2, e .pre .3)
+
+part-add-rows-start : tie.Need-part-add-rows-start Inv-loop μ-loop
+part-add-rows-start c =
+    let e = c .before .before .before .before .before .before in
+    let p = placed (e .args .s) (c .before .before .loop .k) (e .args .i) (e .pre .0) (c .before .loop-test .taken) (e .pre .1) in
+    omega (arith, p, e .pre .2, e .pre .3)
+
+part-add-rows-end : tie.Need-part-add-rows-end Inv-loop μ-loop
+unfolding weightCount
+part-add-rows-end c =
+    let e = c .before .before .before .before .before .before in
+    let p = placed (e .args .s) (c .before .before .loop .k) (e .args .i) (e .pre .0) (c .before .loop-test .taken) (e .pre .1) in
+    omega (arith, p, e .pre .2, e .pre .3)
+
+mul-add-rows-2 : tie.Need-mul-add-rows-2 Inv-loop μ-loop
+mul-add-rows-2 c =
+    let e = c .before .before .before .before .before .before .before in
+    let p = placed (e .args .s) (c .before .before .before .loop .k) (e .args .i) (e .pre .0) (c .before .before .loop-test .taken) (e .pre .1) in
+    omega (arith, p, e .pre .2, e .pre .3)
+
+sub-add-rows-2 : tie.Need-sub-add-rows-2 Inv-loop μ-loop
+sub-add-rows-2 c =
+    let e = c .before .before .before .before .before .before .before in
+    let p = placed (e .args .s) (c .before .before .before .loop .k) (e .args .i) (e .pre .0) (c .before .before .loop-test .taken) (e .pre .1) in
+    omega (arith, p, e .pre .2, e .pre .3)
+
+part-add-rows-start-2 : tie.Need-part-add-rows-start-2 Inv-loop μ-loop
+part-add-rows-start-2 c =
+    let e = c .before .before .before .before .before .before .before in
+    let p = placed (e .args .s) (c .before .before .before .loop .k) (e .args .i) (e .pre .0) (c .before .before .loop-test .taken) (e .pre .1) in
+    omega (arith, p, e .pre .2, e .pre .3)
+
+part-add-rows-end-2 : tie.Need-part-add-rows-end-2 Inv-loop μ-loop
+part-add-rows-end-2 c =
+    let e = c .before .before .before .before .before .before .before in
+    let p = placed (e .args .s) (c .before .before .before .loop .k) (e .args .i) (e .pre .0) (c .before .before .loop-test .taken) (e .pre .1) in
+    omega (arith, p, e .pre .2, e .pre .3)
+
+add-rows-requires : tie.Need-add-rows-requires Inv-loop μ-loop
+add-rows-requires c κs = search needs
+
+add-k : tie.Need-add-k Inv-loop μ-loop
+add-k c = omega arith
+
+loop-less : tie.Need-loop-less Inv-loop μ-loop
+loop-less c = omega arith
+
+loop-again : tie.Need-loop-again Inv-loop μ-loop
+loop-again c =
+    let l = c .before .before .before .before .before .before in
+    let a = l .before .before .before .before .before .args in
+    let k = l .before .loop .k in
+    let from = (k * a .s .rows + a .i) * (a .s .across * a .s .columns) in
+    let f : ℕ → ℕ = λ j. getD (a .sums .now) j 0 + sum k (λ h. part (a .s .across) (a .s .rows) (a .s .columns) (a .s .across * a .s .columns) (a .weights .now) (a .xs .now) (a .i) h j) in
+    let rest : take (length (a .xs .now) - from) (drop from (a .xs .now)) ≡ drop from (a .xs .now) = take-all (length (a .xs .now) - from) (drop from (a .xs .now)) (omega (arith, length-drop from (a .xs .now))) in
+    let row : take (k * a .s .across + a .s .across - k * a .s .across) (drop (k * a .s .across) (a .weights .now)) ≡ take (a .s .across) (drop (k * a .s .across) (a .weights .now)) = rw add-sub-cancel-left in
+    record {
+      is =
+          c .before .before .add-rows .ensures
+          ∙ ap₂ (λ (w m : List ℕ). added (l .before .loop .sums) w m (a .s .columns)) row rest
+          ∙ added-more _ _ (a .s .columns) f (length (a .sums .now)) (l .before .loop .sums) (l .before .loop .inv .is)
+          ∙ terms-step (a .sums .now) (λ h j. part (a .s .across) (a .s .rows) (a .s .columns) (a .s .across * a .s .columns) (a .weights .now) (a .xs .now) (a .i) h j) k;
+      short = omega arith;
+      same = omega arith;
+    }
+
+same-length : tie.Need-same-length Inv-loop μ-loop
+same-length c = c .before .loop .inv .same
+
+returns : tie.Need-returns Inv-loop μ-loop
+unfolding blockTerms
+returns c =
+    let l = c .before in
+    let a = l .before .before .before .before .args in
+    let all : l .loop .k ≡ a .s .down = omega arith in
+    l .loop .inv .is ∙ ap (λ (n : ℕ). tab (λ j. (getD (a .sums .now) j 0 + sum n (λ h. part (a .s .across) (a .s .rows) (a .s .columns) (a .s .across * a .s .columns) (a .weights .now) (a .xs .now) (a .i) h j)) % 2 ^ 64) (length (a .sums .now))) all
+
+pub add-blocks-spec : {M : Type 1} → statement M
+add-blocks-spec =
+    tie.close
+    (tie.spec
+    Inv-loop
+    μ-loop
+    mul-width
+    loop-holds
+    mul-start
+    add-end
+    mul-from
+    add-from
+    mul-from-2
+    mul-add-rows
+    sub-add-rows
+    part-add-rows-start
+    part-add-rows-end
+    mul-add-rows-2
+    sub-add-rows-2
+    part-add-rows-start-2
+    part-add-rows-end-2
+    add-rows-requires
+    add-k
+    loop-less
+    loop-again
+    same-length
+    returns)

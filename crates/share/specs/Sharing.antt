@@ -1,0 +1,101 @@
+-- Sharing (01, "Exponents" and "What is turned down", Share).
+-- k, l, i, j and y count from 0: k and l are a block's row and column in the grid of blocks, i and j an element's in a block.
+--
+--   side m plan                    == the side of matrix A or B: its grid of blocks, the size of a block, its masks, and the
+--                                     series of their exponents
+--   blockEntry s xs k l i j        == the element at i, j of block k, l
+--   maskEntry s ms y i j           == the element at i, j of mask y: the masks lie one after another, row by row
+--   shareEntry e s x xs ms i j     == the sum at i, j of blocks and masks, each times the point x to its exponent
+--   shareOf q e s x xs ms          == the share: these sums modulo q, row by row
+--   point points host              == the point of a host, numbered from 1
+--   hostShare m job points host .. == the share of a host
+--   matrixLength, maskLength, blockLength == how many elements a matrix, all its masks and a block have
+--   ownTests, shareTests           == the tests of sharing that are its own, 12 to 15, and all of them, the plan's first
+--   shareAfter                     == what the output then holds
+use mathlib.Core.Bool.{Bool, not, _||_}
+use mathlib.Core.List.{List, [], _∷_, _++_}
+use Prim.Native.Nat.{ℕ, _+_, _-_, _*_, _^_, _%_}
+use lib.Dec.{eqb}
+use lib.ListN.{length, getD}
+use Rattle.algebra.specs.Lists.{grid, entry, allBelow}
+use Rattle.algebra.specs.Sums.{sum}
+use Rattle.refusal.specs.Chain.{Row, first, answer, outside}
+use Rattle.layout.specs.declared.Series.the-variants.{BlocksA, MasksA, BlocksB, MasksB}
+use Rattle.layout.specs.Exponents.{Exponents, exponents, term}
+use Rattle.plan.specs.declared.Job.{Job}
+use Rattle.plan.specs.declared.Plan.{Plan}
+use Rattle.plan.specs.Planning.{prime, parameters, layoutOf, planOf, planTests}
+use Rattle.share.specs.declared.Matrix.{Matrix}
+use Rattle.share.specs.declared.Matrix.the-variants.{A, B}
+use Rattle.share.specs.declared.Side.{Side}
+
+unfoldable pub side : Matrix → Plan → Side
+side A plan = record {
+  down = plan .parameters .m;
+  across = plan .parameters .p;
+  rows = plan .rows;
+  columns = plan .inner;
+  count = plan .parameters .xa;
+  blocks = BlocksA;
+  masks = MasksA;
+}
+side B plan = record {
+  down = plan .parameters .p;
+  across = plan .parameters .n;
+  rows = plan .inner;
+  columns = plan .columns;
+  count = plan .parameters .xb;
+  blocks = BlocksB;
+  masks = MasksB;
+}
+
+unfoldable pub blockEntry : Side → List ℕ → ℕ → ℕ → ℕ → ℕ → ℕ
+blockEntry s xs k l i j = entry (s .across * s .columns) xs (k * s .rows + i) (l * s .columns + j)
+
+unfoldable pub maskEntry : Side → List ℕ → ℕ → ℕ → ℕ → ℕ
+maskEntry s ms y i j = entry (s .columns) ms (y * s .rows + i) j
+
+unfoldable pub shareEntry : Exponents → Side → ℕ → List ℕ → List ℕ → ℕ → ℕ → ℕ
+shareEntry e s x xs ms i j =
+    sum (s .down) (λ k. sum (s .across) (λ l. blockEntry s xs k l i j * x ^ term e (s .blocks) k l))
+    + sum (s .count) (λ y. maskEntry s ms y i j * x ^ term e (s .masks) 0 y)
+
+unfoldable pub shareOf : ℕ → Exponents → Side → ℕ → List ℕ → List ℕ → List ℕ
+shareOf q e s x xs ms = grid (λ i j. shareEntry e s x xs ms i j % q) (s .rows) (s .columns)
+
+unfoldable pub point : List ℕ → ℕ → ℕ
+point points host = getD points (host - 1) 0
+
+unfoldable pub hostShare : Matrix → Job → List ℕ → ℕ → List ℕ → List ℕ → List ℕ
+hostShare m job points host xs ms =
+    shareOf (prime job) (exponents (layoutOf job) (parameters job)) (side m (planOf job)) (point points host) xs ms
+
+unfoldable pub blockLength : Side → ℕ
+blockLength s = s .rows * s .columns
+
+unfoldable pub matrixLength : Side → ℕ
+matrixLength s = s .down * s .across * blockLength s
+
+unfoldable pub maskLength : Side → ℕ
+maskLength s = s .count * blockLength s
+
+-- matrix, masks or output not of exact length
+unfoldable pub lengthTest : Side → ℕ → ℕ → ℕ → Bool
+lengthTest s xs ms room = not (eqb xs (matrixLength s)) || not (eqb ms (maskLength s)) || not (eqb room (blockLength s))
+
+-- q is the prime, hosts is N, and room is how many elements the output has room for
+unfoldable pub ownTests : ℕ → ℕ → Side → ℕ → List ℕ → List ℕ → ℕ → List Row
+ownTests q hosts s host xs ms room =
+    (outside 1 hosts host, 12)
+    ∷ (lengthTest s (length xs) (length ms) room, 13)
+    ∷ (not (allBelow q xs), 14)
+    ∷ (not (allBelow q ms), 15)
+    ∷ []
+
+unfoldable pub shareTests : Matrix → Job → List ℕ → ℕ → List ℕ → List ℕ → ℕ → List Row
+shareTests m job points host xs ms room =
+    planTests job points ++ ownTests (prime job) (job .hosts) (side m (planOf job)) host xs ms room
+
+unfoldable pub shareAfter : Matrix → Job → List ℕ → ℕ → List ℕ → List ℕ → List ℕ → List ℕ
+shareAfter m job points host xs ms out =
+    answer (first (shareTests m job points host xs ms (length out))) (hostShare m job points host xs ms) (λ r. out)
