@@ -3,6 +3,7 @@
 --   tab-cong, grid-cong       equal elements
 --   length-grid, getD-grid    a grid has its length and its elements
 --   entry-grid                the same, by row and column
+--   row-grid                  a row of a grid, which more elements may follow
 --   rows-none, rows-more, rows-all  a list that is filled row by row becomes a grid
 use mathlib.Core.Path.{_≡_, refl, sym, ap, ap₂, _∙_}
 use mathlib.Core.Logic.{⊎-elim}
@@ -56,6 +57,21 @@ module _ (f : ℕ → ℕ → ℕ) where
   pub entry-grid : (rows columns i j : ℕ) → i < rows → j < columns → entry columns (grid f rows columns) i j ≡ f i j
   unfolding entry
   entry-grid rows columns i j a b = getD-grid rows columns i j 0 a b
+
+  pub row-grid : (rows columns i : ℕ) (rest : List ℕ) → i < rows
+      → take columns (drop (i * columns) (grid f rows columns ++ rest)) ≡ tab (f i) columns
+  unfolding grid
+  row-grid zero columns i rest a = absurd (not-suc-le-zero a)
+  row-grid (suc rows) columns i rest a =
+      ap (λ (l : List ℕ). take columns (drop (i * columns) l)) (append-assoc (grid f rows columns) (tab (f rows) columns) rest)
+      ∙ ⊎-elim
+      (λ (e : i ≡ rows).
+      let start : length (grid f rows columns) ≡ i * columns = length-grid rows columns ∙ ap (λ (k : ℕ). k * columns) (sym e) in
+      ap (take columns) (drop-at (grid f rows columns) (tab (f rows) columns ++ rest) (i * columns) start)
+      ∙ take-at (tab (f rows) columns) rest columns (length-tab (f rows) columns)
+      ∙ ap (λ (k : ℕ). tab (f k) columns) (sym e))
+      (λ (l : i < rows). row-grid rows columns i (tab (f rows) columns ++ rest) l)
+      (eq-or-lt-of-le (le-of-suc-le-suc a))
 
   pub rows-none : (xs : List ℕ) (columns : ℕ) → xs ≡ grid f 0 columns ++ drop (0 * columns) xs
   unfolding grid

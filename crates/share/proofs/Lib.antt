@@ -1,0 +1,2 @@
+-- Laws of the sums of a share.
+pub mod Sums
