@@ -3,18 +3,20 @@
 --   tab-cong, grid-cong       equal elements
 --   length-grid, getD-grid    a grid has its length and its elements
 --   entry-grid                the same, by row and column
+--   below-grid                a grid of small numbers
+--   row-grid                  a row of a grid, which more elements may follow
 --   rows-none, rows-more, rows-all  a list that is filled row by row becomes a grid
 use mathlib.Core.Path.{_≡_, refl, sym, ap, ap₂, _∙_}
 use mathlib.Core.Logic.{⊎-elim}
 use mathlib.Core.List.{List, [], _∷_, _++_, append-assoc, append-nil}
-use Prim.Native.Nat.{ℕ, zero, suc, _+_, _*_, _<_, _≤_}
+use Prim.Native.Nat.{ℕ, zero, suc, _+_, _*_, _<_}
 use native.Mathlib.Nat.{not-suc-le-zero, le-of-suc-le-suc, eq-or-lt-of-le, lt-suc-self, mul-le-mul-right}
 use native.Mathlib.Numerals.{add-one}
 use native.Mathlib.Omega.{arith}
 use lib.ListN.{length, getD, take, drop, length-append, List·getD-append, drop-of-length-le}
 use lib.Seq.{getD-append-add, take-at, drop-at, drop-drop}
-use Rattle.algebra.specs.Lists.{tab, grid, entry}
-use Rattle.algebra.proofs.Lists.{length-tab, getD-tab}
+use Rattle.algebra.specs.Lists.{tab, grid, entry, AllBelow}
+use Rattle.algebra.proofs.Lists.{length-tab, getD-tab, below-append, below-tab}
 
 pub tab-cong : (f g : ℕ → ℕ) (n : ℕ) → ((i : ℕ) → i < n → f i ≡ g i) → tab f n ≡ tab g n
 unfolding tab
@@ -56,6 +58,27 @@ module _ (f : ℕ → ℕ → ℕ) where
   pub entry-grid : (rows columns i j : ℕ) → i < rows → j < columns → entry columns (grid f rows columns) i j ≡ f i j
   unfolding entry
   entry-grid rows columns i j a b = getD-grid rows columns i j 0 a b
+
+  pub below-grid : (q rows columns : ℕ) → ((i j : ℕ) → f i j < q) → AllBelow q (grid f rows columns)
+  unfolding grid
+  below-grid q zero columns h i l = absurd (not-suc-le-zero l)
+  below-grid q (suc rows) columns h i l =
+      below-append q (grid f rows columns) (tab (f rows) columns) (below-grid q rows columns h) (below-tab q (f rows) columns (h rows)) i l
+
+  pub row-grid : (rows columns i : ℕ) (rest : List ℕ) → i < rows
+      → take columns (drop (i * columns) (grid f rows columns ++ rest)) ≡ tab (f i) columns
+  unfolding grid
+  row-grid zero columns i rest a = absurd (not-suc-le-zero a)
+  row-grid (suc rows) columns i rest a =
+      ap (λ (l : List ℕ). take columns (drop (i * columns) l)) (append-assoc (grid f rows columns) (tab (f rows) columns) rest)
+      ∙ ⊎-elim
+      (λ (e : i ≡ rows).
+      let start : length (grid f rows columns) ≡ i * columns = length-grid rows columns ∙ ap (λ (k : ℕ). k * columns) (sym e) in
+      ap (take columns) (drop-at (grid f rows columns) (tab (f rows) columns ++ rest) (i * columns) start)
+      ∙ take-at (tab (f rows) columns) rest columns (length-tab (f rows) columns)
+      ∙ ap (λ (k : ℕ). tab (f k) columns) (sym e))
+      (λ (l : i < rows). row-grid rows columns i (tab (f rows) columns ++ rest) l)
+      (eq-or-lt-of-le (le-of-suc-le-suc a))
 
   pub rows-none : (xs : List ℕ) (columns : ℕ) → xs ≡ grid f 0 columns ++ drop (0 * columns) xs
   unfolding grid

@@ -5,7 +5,8 @@
 --   fill-none, fill-more, fill-all  a list that is filled from the front becomes a tabulated one
 --   all-below-test            what the test `allBelow` tells
 --   below-anywhere            past the end of a list stands 0
---   below-part                a part of a list
+--   below-append, below-tab   small numbers after small numbers, and a tabulated list of them
+--   below-drop, below-part    a part of a list
 --   below-none, below-more, below-all  the test, element by element
 --   below-stop                one element that is not below
 use mathlib.Core.Path.{_≡_, refl, sym, ap, _∙_}
@@ -70,13 +71,24 @@ pub below-anywhere : (q : ℕ) (xs : List ℕ) → 0 < q → AllBelow q xs → (
 below-anywhere q xs pos h i =
     ⊎-elim (λ (over : length xs ≤ i). omega (arith, List·getD-eq-default xs 0 over)) (λ (l : i < length xs). h i l) (le-or-lt (length xs) i)
 
+pub below-append : (q : ℕ) (xs ys : List ℕ) → AllBelow q xs → AllBelow q ys → AllBelow q (xs ++ ys)
+below-append q [] ys b c i h = c i h
+below-append q (x ∷ xs) ys b c zero h = b 0 (omega arith)
+below-append q (x ∷ xs) ys b c (suc i) h = below-append q xs ys (λ j l. b (suc j) (omega arith)) c i (le-of-suc-le-suc h)
+
+pub below-tab : (q : ℕ) (f : ℕ → ℕ) (n : ℕ) → ((i : ℕ) → f i < q) → AllBelow q (tab f n)
+below-tab q f n h i l = omega (arith, getD-tab f n i 0 (omega (arith, length-tab f n)), h i)
+
+pub below-drop : (q : ℕ) (xs : List ℕ) → AllBelow q xs → (k : ℕ) → AllBelow q (drop k xs)
+below-drop q xs h k i l =
+    let there : k + i < length xs = omega (arith, length-drop k xs) in
+    omega (arith, getD-drop k xs i 0, h (k + i) there)
+
 pub below-part : (q : ℕ) (xs : List ℕ) → AllBelow q xs → (n k : ℕ) → AllBelow q (take n (drop k xs))
 below-part q xs h n k i l =
     let size = length-take n (drop k xs) in
-    let rest = length-drop k xs in
     let inside : i < n = omega arith in
-    let there : k + i < length xs = omega arith in
-    omega (arith, getD-take n (drop k xs) i 0 inside, getD-drop k xs i 0, h (k + i) there)
+    omega (arith, getD-take n (drop k xs) i 0 inside, below-drop q xs h k i (omega arith))
 
 pub below-none : (q : ℕ) (xs : List ℕ) → allBelow q (take 0 xs) ≡ true
 unfolding allBelow

@@ -1,7 +1,6 @@
 -- Laws of numbers and elements as bytes.
 --
 --   length-bigEndian            as many bytes as the width
---   below-append                small numbers after small numbers
 --   bigEndian-bytes             each byte is below 256
 --   numberAt-front              more bytes after it change no number
 --   numberAt-past               nor do some before it, by which its place moves
@@ -20,7 +19,7 @@ use native.Mathlib.Omega.{arith}
 use lib.ListN.{length, getD, take, drop, length-append, length-drop, List·getD-append}
 use lib.Seq.{getD-append-add, getD-at, take-add, take-suc, take-all, getD-drop, ext-getD}
 use Rattle.algebra.specs.Lists.{tab, AllBelow}
-use Rattle.algebra.proofs.Lists.{length-tab, getD-tab}
+use Rattle.algebra.proofs.Lists.{length-tab, getD-tab, below-append}
 use Rattle.elements.specs.Bytes.{bigEndian, numberAt, bytesOf, elementsOf}
 
 pub length-bigEndian : (width x : ℕ) → length (bigEndian width x) ≡ width
@@ -28,11 +27,6 @@ unfolding bigEndian
 length-bigEndian zero x = refl
 length-bigEndian (suc width) x =
     omega (arith, length-append (bigEndian width (x / 256)) (x % 256 ∷ []), length-bigEndian width (x / 256))
-
-pub below-append : (q : ℕ) (xs ys : List ℕ) → AllBelow q xs → AllBelow q ys → AllBelow q (xs ++ ys)
-below-append q [] ys b c i h = c i h
-below-append q (x ∷ xs) ys b c zero h = b 0 (omega arith)
-below-append q (x ∷ xs) ys b c (suc i) h = below-append q xs ys (λ j l. b (suc j) (omega arith)) c i (le-of-suc-le-suc h)
 
 below-one : (q x : ℕ) → x < q → AllBelow q (x ∷ [])
 below-one q x l zero h = l

@@ -14,8 +14,9 @@ use lib.Dec.{lit≤}
 use lib.ListN.{length, take, drop}
 use lib.Seq.{take-add, drop-drop}
 use Rattle.algebra.specs.Lists.{AllBelow}
+use Rattle.algebra.proofs.Lists.{below-append}
 use Rattle.elements.specs.Bytes.{bigEndian, numberAt}
-use Rattle.elements.proofs.Bytes.{below-append, bigEndian-bytes, bigEndian-numberAt}
+use Rattle.elements.proofs.Bytes.{bigEndian-bytes, bigEndian-numberAt}
 use Rattle.elements.proofs.Words.{number-of-one, number-of-two, number-of-four}
 use Rattle.message.specs.declared.Header.{Header}
 use Rattle.message.specs.Format.{mark, version, header, headerOf}

@@ -14,10 +14,11 @@ use native.Mathlib.Omega.{arith}
 use lib.ListN.{length, take, drop, length-append, length-drop, take-append-drop}
 use lib.Seq.{drop-at, getD-drop, take-at}
 use Rattle.algebra.specs.Lists.{AllBelow}
+use Rattle.algebra.proofs.Lists.{below-append}
 use Rattle.algebra.proofs.Orders.{le-or-lt}
 use Rattle.refusal.specs.Chain.{first}
 use Rattle.elements.specs.Bytes.{bytesOf, elementsOf}
-use Rattle.elements.proofs.Bytes.{below-append, length-bytesOf, bytesOf-bytes, elements-of-bytes, bytes-of-elements}
+use Rattle.elements.proofs.Bytes.{length-bytesOf, bytesOf-bytes, elements-of-bytes, bytes-of-elements}
 use Rattle.elements.proofs.Words.{length-elements}
 use Rattle.message.specs.declared.Header.{Header}
 use Rattle.message.specs.declared.Reading.the-variants.{Done, Refused}

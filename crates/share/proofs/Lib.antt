@@ -1,2 +1,4 @@
--- Laws of sharing.
+-- Laws of sharing: places, sums and rows.
 pub mod Places
+pub mod Sums
+pub mod Rows

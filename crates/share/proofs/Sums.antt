@@ -1,0 +1,144 @@
+-- The sums of weighted rows are those of the sheet's formula, and fit 64 bits.
+--
+--   weights-length  as many weights as a side has
+--   weights-below   each below q
+--   share-exact     the sums modulo q are the share
+--   row-fits        at most 80 products of elements are summed
+use mathlib.Core.Path.{_≡_, ap, _∙_}
+use mathlib.Core.List.{List, _++_, append-assoc}
+use Prim.Native.Nat.{ℕ, _+_, _*_, _%_, _^_, _<_, _≤_}
+use native.Mathlib.Nat.{le-trans, mod-lt, mul-comm, mul-le-mul, mul-le-mul-right}
+use native.Mathlib.Omega.{arith}
+use lib.ListN.{length, getD, take, drop, length-append, length-take}
+use lib.Seq.{getD-drop, take-at, drop-at}
+use Rattle.algebra.specs.Lists.{tab, grid, entry, AllBelow}
+use Rattle.algebra.specs.Sums.{sum}
+use Rattle.algebra.specs.Modular.{⟨_⟩_≈_}
+use Rattle.algebra.proofs.Lists.{length-tab, getD-tab, below-append, below-tab, below-drop, below-part}
+use Rattle.algebra.proofs.Grids.{grid-cong, length-grid, below-grid, row-grid}
+use Rattle.algebra.proofs.Modular.{≈-trans, ≈-of-eq, ≈-mod, ≈-add, ≈-mul}
+use Rattle.algebra.proofs.Sums.{sum-≈, sum-bound}
+use Rattle.field.specs.declared.Modulus.{Modulus}
+use Rattle.field.specs.Modulus.{prime}
+use Rattle.field.proofs.Moduli.{prime-prime, sums-fit}
+use Rattle.layout.specs.Exponents.{Exponents, term}
+use Rattle.rows.specs.Combination.{combination}
+use Rattle.rows.proofs.Exact.{combination-below}
+use Rattle.share.specs.declared.Side.{Side}
+use Rattle.share.specs.Sharing.{blockEntry, maskEntry, shareEntry, shareOf}
+use Rattle.share.specs.Weights.{Ready, weightsOf, weightCount, blockTerms, maskTerms, rowSums}
+
+-- a combination whose weights are those of g modulo q, and whose elements in column j are those of h
+weighted : (q n : ℕ) (g h : ℕ → ℕ) (weights source : List ℕ) (stride j : ℕ) → weights ≡ tab (λ l. g l % q) n
+    → ((l : ℕ) → entry stride source l j ≡ h l) → ⟨ q ⟩ combination weights source stride j ≈ sum n (λ l. h l * g l)
+unfolding combination
+weighted q n g h weights source stride j is at =
+    let size : length weights ≡ n = ap length is ∙ length-tab (λ l. g l % q) n in
+    ≈-trans (≈-of-eq (ap (λ (k : ℕ). sum k (λ l. getD weights l 0 * entry stride source l j)) size))
+    (sum-≈ n (λ l. getD weights l 0 * entry stride source l j) (λ l. h l * g l) (λ l b.
+    let weight : getD weights l 0 ≡ g l % q = ap (λ (ws : List ℕ). getD ws l 0) is ∙ getD-tab (λ l. g l % q) n l 0 b in
+    ≈-trans (≈-mul (≈-trans (≈-of-eq weight) (≈-mod (g l))) (≈-of-eq (at l))) (≈-of-eq (mul-comm (g l) (h l)))))
+
+module _ (q : ℕ) (e : Exponents) (s : Side) (x : ℕ) where
+  -- the weights of the blocks and of the masks, before and after they are reduced
+  block : ℕ → ℕ → ℕ
+  block k l = x ^ term e (s .blocks) k l
+
+  mask : ℕ → ℕ
+  mask y = x ^ term e (s .masks) 0 y
+
+  blocks : List ℕ
+  blocks = grid (λ k l. block k l % q) (s .down) (s .across)
+
+  masks : List ℕ
+  masks = tab (λ y. mask y % q) (s .count)
+
+  length-blocks : length blocks ≡ s .down * s .across
+  unfolding blocks
+  length-blocks = length-grid (λ k l. block k l % q) (s .down) (s .across)
+
+  length-masks : length masks ≡ s .count
+  unfolding masks
+  length-masks = length-tab (λ y. mask y % q) (s .count)
+
+  pub weights-length : length (weightsOf q e s x) ≡ weightCount s
+  unfolding weightsOf weightCount blocks masks block mask
+  weights-length = omega (arith, length-append blocks masks, length-blocks, length-masks)
+
+  pub weights-below : (rest : List ℕ) → 0 < q → AllBelow q rest → AllBelow q (weightsOf q e s x ++ rest)
+  unfolding weightsOf blocks masks block mask
+  weights-below rest pos h =
+      below-append q (blocks ++ masks) rest
+      (below-append q blocks masks (below-grid _ q (s .down) (s .across) (λ k l. mod-lt _ pos)) (below-tab q _ (s .count) (λ y. mod-lt _ pos)))
+      h
+
+  module _ (w rest xs ms : List ℕ) (is : w ≡ weightsOf q e s x ++ rest) where
+    parts : w ≡ blocks ++ (masks ++ rest)
+    unfolding weightsOf blocks masks block mask
+    parts = is ∙ append-assoc blocks masks rest
+
+    block-weights : (k : ℕ) → k < s .down → take (s .across) (drop (k * s .across) w) ≡ tab (λ l. block k l % q) (s .across)
+    unfolding blocks
+    block-weights k h =
+        ap (λ (l : List ℕ). take (s .across) (drop (k * s .across) l)) parts
+        ∙ row-grid (λ k l. block k l % q) (s .down) (s .across) k (masks ++ rest) h
+
+    mask-weights : take (s .count) (drop (s .down * s .across) w) ≡ masks
+    mask-weights =
+        ap (λ (l : List ℕ). take (s .count) (drop (s .down * s .across) l)) parts
+        ∙ ap (take (s .count)) (drop-at blocks (masks ++ rest) (s .down * s .across) length-blocks)
+        ∙ take-at masks rest (s .count) length-masks
+
+    blocks-≈ : (i j : ℕ) → ⟨ q ⟩ blockTerms s w xs i j ≈ sum (s .down) (λ k. sum (s .across) (λ l. blockEntry s xs k l i j * block k l))
+    unfolding blockTerms blockEntry entry
+    blocks-≈ i j =
+        sum-≈ (s .down) _ _ (λ k h.
+        let start : ℕ = (k * s .rows + i) * (s .across * s .columns) in
+        weighted q (s .across) (block k) (λ l. blockEntry s xs k l i j) (take (s .across) (drop (k * s .across) w)) (drop start xs) (s .columns) j
+        (block-weights k h) (λ l. getD-drop start xs (l * s .columns + j) 0))
+
+    masks-≈ : (i j : ℕ) → ⟨ q ⟩ maskTerms s w ms i j ≈ sum (s .count) (λ y. maskEntry s ms y i j * mask y)
+    unfolding maskTerms maskEntry entry masks
+    masks-≈ i j =
+        let size : ℕ = s .rows * s .columns in
+        weighted q (s .count) mask (λ y. maskEntry s ms y i j) (take (s .count) (drop (s .down * s .across) w)) (drop (i * s .columns) ms) size j
+        mask-weights (λ y.
+        let place : i * s .columns + (y * size + j) ≡ (y * s .rows + i) * s .columns + j = omega arith in
+        getD-drop (i * s .columns) ms (y * size + j) 0 ∙ ap (λ (k : ℕ). getD ms k 0) place)
+
+    sums-≈ : (i j : ℕ) → ⟨ q ⟩ rowSums s w xs ms i j ≈ shareEntry e s x xs ms i j
+    unfolding rowSums shareEntry block mask
+    sums-≈ i j = ≈-add (blocks-≈ i j) (masks-≈ i j)
+
+    pub share-exact : grid (λ i j. rowSums s w xs ms i j % q) (s .rows) (s .columns) ≡ shareOf q e s x xs ms
+    unfolding shareOf
+    share-exact =
+        grid-cong (λ i j. rowSums s w xs ms i j % q) (λ i j. shareEntry e s x xs ms i j % q) (s .rows) (s .columns) (λ i j a b. sums-≈ i j .same)
+
+-- a combination of n weights, of many, with rows from some place on
+part-bound : (q : ℕ) (w source : List ℕ) → 0 < q → AllBelow q w → AllBelow q source → (n k start stride j : ℕ)
+    → combination (take n (drop k w)) (drop start source) stride j ≤ n * (q * q)
+part-bound q w source pos hw hs n k start stride j =
+    le-trans (combination-below (take n (drop k w)) (drop start source) stride j q pos (below-part q w hw n k) (below-drop q source hs start))
+    (mul-le-mul-right (q * q) (omega (arith, length-take n (drop k w))))
+
+module _ (q : ℕ) (s : Side) (w : List ℕ) (pos : 0 < q) (hw : AllBelow q w) where
+  blocks-bound : (xs : List ℕ) → AllBelow q xs → (i j : ℕ) → blockTerms s w xs i j ≤ s .down * (s .across * (q * q))
+  unfolding blockTerms
+  blocks-bound xs h i j =
+      sum-bound (s .down) (s .across * (q * q)) _ (λ k l.
+      part-bound q w xs pos hw h (s .across) (k * s .across) ((k * s .rows + i) * (s .across * s .columns)) (s .columns) j)
+
+  masks-bound : (ms : List ℕ) → AllBelow q ms → (i j : ℕ) → maskTerms s w ms i j ≤ s .count * (q * q)
+  unfolding maskTerms
+  masks-bound ms h i j = part-bound q w ms pos hw h (s .count) (s .down * s .across) (i * s .columns) (s .rows * s .columns) j
+
+pub row-fits : (m : Modulus) (s : Side) (w xs ms : List ℕ) → Ready (prime m) s w xs ms → (i j : ℕ) → rowSums s w xs ms i j < 2 ^ 64
+unfolding rowSums
+row-fits m s w xs ms r i j =
+    let q : ℕ = prime m in
+    let pos : 0 < q = omega (arith, prime-prime m .above-one) in
+    let few : s .down * s .across + s .count ≤ 80 = omega (arith, mul-le-mul (r .small .down) (r .small .across), r .small .count) in
+    let blocks = blocks-bound q s w pos (r .below-weights) xs (r .below-matrix) i j in
+    let masks = masks-bound q s w pos (r .below-weights) ms (r .below-masks) i j in
+    omega (arith, sums-fit m, mul-le-mul-right (q * q) few)
