@@ -3,3 +3,4 @@ pub mod Ranges
 pub mod Points
 pub mod Answers
 pub mod Facts
+pub mod Then

@@ -2,3 +2,4 @@
 pub mod Places
 pub mod Sums
 pub mod Rows
+pub mod Answers

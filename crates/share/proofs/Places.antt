@@ -12,7 +12,7 @@ use lib.ListN.{length, take, drop}
 use lib.Seq.{take-at, drop-at, drop-drop}
 use Rattle.algebra.proofs.Orders.{row-end}
 use Rattle.share.specs.declared.Side.{Side}
-use Rattle.share.specs.Sharing.{blockLength, matrixLength, maskLength}
+use Rattle.share.specs.Sharing.{blockLength, matrixLength}
 use Rattle.share.specs.Weights.{Small}
 
 pub record Placed (s : Side) (k i : ℕ) : Type 0 where

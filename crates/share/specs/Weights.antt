@@ -23,13 +23,17 @@ pub record Small (s : Side) : Type 0 where
   pub down : s .down ≤ 8
   pub across : s .across ≤ 8
   pub count : s .count ≤ 16
+  pub masked : 1 ≤ s .count
   pub rows : s .rows ≤ 4096
   pub columns : s .columns ≤ 4096
   pub block : s .rows * s .columns ≤ 4096
 
+unfoldable pub weightCount : Side → ℕ
+weightCount s = s .down * s .across + s .count
+
 pub record Ready (q : ℕ) (s : Side) (w xs ms : List ℕ) : Type 0 where
   pub small : Small s
-  pub weights : s .down * s .across + s .count ≤ length w
+  pub weights : weightCount s ≤ length w
   pub matrix : length xs ≡ matrixLength s
   pub masks : length ms ≡ maskLength s
   pub below-weights : AllBelow q w
@@ -40,9 +44,6 @@ unfoldable pub weightsOf : ℕ → Exponents → Side → ℕ → List ℕ
 weightsOf q e s x =
     grid (λ k l. x ^ term e (s .blocks) k l % q) (s .down) (s .across)
     ++ tab (λ y. x ^ term e (s .masks) 0 y % q) (s .count)
-
-unfoldable pub weightCount : Side → ℕ
-weightCount s = s .down * s .across + s .count
 
 unfoldable pub blockTerms : Side → List ℕ → List ℕ → ℕ → ℕ → ℕ
 blockTerms s w xs i j =

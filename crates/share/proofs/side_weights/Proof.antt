@@ -1,25 +1,20 @@
 -- `share::side_weights` meets its contract.
-use mathlib.Core.Path.{_≡_, refl, sym, ap, _∙_}
-use mathlib.Core.List.{List, _++_}
-use Prim.Native.Nat.{ℕ, _+_, _-_, _*_, _%_, _^_, _<_, _≤_}
+use mathlib.Core.Path.{_≡_, refl, ap, _∙_}
+use mathlib.Core.List.{_++_}
+use Prim.Native.Nat.{ℕ, _+_, _-_, _*_, _%_, _^_, _≤_}
 use native.Mathlib.Nat.{mul-le-mul, add-sub-cancel-left}
 use native.Mathlib.Omega.{arith}
-use borrow.Author.Needs.{needs}
 use lib.ListN.{length, take, drop, length-take, length-drop}
 use lib.Seq.{length-take-le}
-use Rattle.algebra.specs.Lists.{tab, grid}
+use Rattle.algebra.specs.Lists.{grid}
 use Rattle.algebra.proofs.Orders.{row-end}
 use Rattle.algebra.proofs.Grids.{length-grid, rows-none, rows-more}
-use Rattle.field.specs.declared.Modulus.{Modulus}
 use Rattle.field.specs.Modulus.{prime}
 use Rattle.layout.specs.Exponents.{exponents, term}
-use Rattle.share.specs.Weights.{Small, weightsOf, weightCount}
+use Rattle.share.specs.Weights.{weightsOf, weightCount}
 use Rattle.share.proofs.Places.{weights-end}
 use Rattle.share.proofs.side_weights.Statement.{statement}
 use Rattle.share.proofs.side_weights.Tie as tie
-use Rattle.share.proofs.side_weights.Reads as reads
-use Rattle.share.proofs.side_weights.Lts as lts
-use Rattle.share.proofs.weigh.Reads as weigh-reads
 
 abbrev Inv-loop : tie.InvT-loop
 Inv-loop s x weights₀ modulus layout g blocks masks down across k₀ weights k =

@@ -1,0 +1,50 @@
+-- Calls that make the plan's tests again first, and then their own.
+--
+--   plan-numbered    every row of the plan's tests has a number
+--   then-refused     planning refuses: so does the call, with the same number
+--   then-own         planning accepts: the call's own tests decide
+--   own-prime        the prime of an accepted job's modulus is that of its modulus number
+use mathlib.Core.Path.{_≡_, refl, sym, _∙_}
+use mathlib.Core.Bool.{false, true≢false}
+use mathlib.Core.List.{List, _++_}
+use Prim.Native.Nat.{ℕ, zero, suc}
+use native.Mathlib.Nat.{suc-ne-zero}
+use lib.Dec.{T}
+use Rattle.refusal.specs.Chain.{Row, first, answer, outside}
+use Rattle.refusal.proofs.Chains.{first-append, first-append-hit, numbered}
+use Rattle.field.specs.Modulus.{moduli, modulus, noModulus, named}
+use Rattle.field.proofs.Moduli.{none-named}
+use Rattle.plan.specs.declared.Job.{Job}
+use Rattle.plan.specs.declared.Planned.the-variants.{Accepted, Refused}
+use Rattle.plan.specs.Planning.{prime, known, modulusOf, planOf, rangeTests, fitTests, pointTests, planTests, planned}
+use Rattle.plan.proofs.Points.{points-numbered}
+
+pub plan-numbered : (job : Job) (points : List ℕ) → T (numbered (planTests job points))
+unfolding planTests rangeTests fitTests pointTests numbered
+plan-numbered job points = points-numbered (prime job) points _
+
+module _ (job : Job) (points : List ℕ) (rows : List Row) where
+  pub then-refused : {n : ℕ} → planned job points ≡ Refused n → (first (planTests job points ++ rows) ≡ n) × (n ≡ 0 → ⊥)
+  unfolding planned answer
+  then-refused {n} e = go (first (planTests job points)) refl e
+    where
+      go : (k : ℕ) → first (planTests job points) ≡ k → answer k (Accepted (planOf job)) Refused ≡ Refused n
+          → (first (planTests job points ++ rows) ≡ n) × (n ≡ 0 → ⊥)
+      go zero is e = let z : _≡_ {A = ℕ} 1 0 = cc in absurd (suc-ne-zero 0 z)
+      go (suc k) is e =
+          let same : suc k ≡ n = cc in
+          (first-append-hit (planTests job points) rows n (λ z. suc-ne-zero k (same ∙ z)) (is ∙ same), λ z. suc-ne-zero k (same ∙ z))
+
+  pub then-own : first (planTests job points) ≡ 0 → first (planTests job points ++ rows) ≡ first rows
+  then-own e = first-append (planTests job points) rows (plan-numbered job points) e
+
+pub own-prime : (job : Job) → noModulus (job .modulus) ≡ false → Modulus·prime (modulusOf job) ≡ prime job
+unfolding modulusOf prime named modulus moduli noModulus outside
+own-prime job e = go (job .modulus) e
+  where
+    go : (n : ℕ) → noModulus n ≡ false → Modulus·prime (known (named n)) ≡ modulus n
+    go zero e = absurd (true≢false e)
+    go (suc zero) e = refl
+    go (suc (suc zero)) e = refl
+    go (suc (suc (suc zero))) e = refl
+    go (suc (suc (suc (suc n)))) e = absurd (true≢false (sym (none-named (suc (suc (suc (suc n)))) refl) ∙ e))

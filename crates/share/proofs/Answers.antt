@@ -1,0 +1,102 @@
+-- What a call of sharing answers and leaves.
+--
+--   side-small    a side of an accepted job keeps the limits
+--   refused       by a number that is not 0: the output stays
+--   done          by 0: the output holds the share
+--   Passed, passed  what sharing's own tests tell, once they have passed
+use mathlib.Core.Path.{_≡_, sym, ap, _∙_}
+use mathlib.Core.Bool.{not}
+use mathlib.Core.Logic.{⊎-elim}
+use mathlib.Core.List.{List}
+use Prim.Native.Nat.{ℕ, _*_, _/_, _%_, _<_, _≤_}
+use native.Mathlib.Nat.{mul-le-mul-left, mul-le-mul-right, div-add-mod}
+use native.Mathlib.Omega.{arith}
+use lib.Dec.{eqb}
+use lib.ListN.{length}
+use borrow.Author.Tests.{not-false}
+use Rattle.algebra.specs.Lists.{AllBelow, allBelow}
+use Rattle.algebra.proofs.Orders.{le-or-lt}
+use Rattle.algebra.proofs.Tests.{or-all, equal}
+use Rattle.algebra.proofs.Lists.{all-below-test}
+use Rattle.refusal.specs.Chain.{first, answer, outside}
+use Rattle.refusal.proofs.Chains.{first-clear, answer-done, answer-refused, inside-low, inside-high}
+use Rattle.plan.specs.declared.Job.{Job}
+use Rattle.plan.specs.Planning.{parameters, blockRows, blockInner, blockColumns, planOf}
+use Rattle.plan.proofs.Facts.{Fits}
+use Rattle.share.specs.declared.Matrix.{Matrix}
+use Rattle.share.specs.declared.Matrix.the-variants.{A, B}
+use Rattle.share.specs.declared.Side.{Side}
+use Rattle.share.specs.Sharing.{side, hostShare, blockLength, matrixLength, maskLength, lengthTest, ownTests, shareTests, shareAfter}
+use Rattle.share.specs.Weights.{Small}
+
+-- the quotient of a positive number by a divisor of it is positive
+whole : (a b : ℕ) → 1 ≤ a → a % b ≡ 0 → 1 ≤ a / b
+whole a b h e =
+    ⊎-elim (λ (l : 1 ≤ a / b). l)
+    (λ (z : a / b < 1).
+    let none : a / b ≡ 0 = omega arith in
+    let no : ⊥ = omega (arith, div-add-mod a b, ap (λ (k : ℕ). b * k) none) in
+    absurd no)
+    (le-or-lt 1 (a / b))
+
+-- the limits, from the sizes of a block that is not empty
+small-of : (s : Side) → s .down ≤ 8 → s .across ≤ 8 → 1 ≤ s .count → s .count ≤ 16 → 1 ≤ s .rows → 1 ≤ s .columns → s .rows * s .columns ≤ 4096 → Small s
+small-of s hd ha hm hc hr hk hb =
+    let tall : s .rows * 1 ≤ s .rows * s .columns = mul-le-mul-left (s .rows) hk in
+    let wide : 1 * s .columns ≤ s .rows * s .columns = mul-le-mul-right (s .columns) hr in
+    record { down = hd; across = ha; count = hc; masked = hm; rows = omega arith; columns = omega arith; block = hb }
+
+pub side-small : (m : Matrix) (job : Job) → Fits job → Small (side m (planOf job))
+unfolding side planOf parameters blockRows blockInner blockColumns
+side-small A job f =
+    let r = f .ranged in
+    small-of (side A (planOf job)) (r .m .high) (r .p .high) (r .xa .low) (r .xa .high) (whole (job .t) (job .m) (r .t .low) (f .divides-t))
+    (whole (job .s) (job .p) (r .s .low) (f .divides-s)) (f .block-a)
+side-small B job f =
+    let r = f .ranged in
+    small-of (side B (planOf job)) (r .p .high) (r .n .high) (r .xb .low) (r .xb .high) (whole (job .s) (job .p) (r .s .low) (f .divides-s))
+    (whole (job .r) (job .n) (r .r .low) (f .divides-r)) (f .block-b)
+
+pub record Passed (q hosts : ℕ) (s : Side) (host : ℕ) (xs ms : List ℕ) (room : ℕ) : Type 0 where
+  pub low : 1 ≤ host
+  pub high : host ≤ hosts
+  pub matrix : length xs ≡ matrixLength s
+  pub masks : length ms ≡ maskLength s
+  pub out : room ≡ blockLength s
+  pub below-matrix : AllBelow q xs
+  pub below-masks : AllBelow q ms
+
+pub passed : (q hosts : ℕ) (s : Side) (host : ℕ) (xs ms : List ℕ) (room : ℕ) → first (ownTests q hosts s host xs ms room) ≡ 0
+    → Passed q hosts s host xs ms room
+unfolding ownTests lengthTest
+passed q hosts s host xs ms room e =
+    let who = first-clear (outside 1 hosts host) 11 _ e in
+    let len = first-clear (lengthTest s (length xs) (length ms) room) 12 _ (who .1) in
+    let elements = first-clear (not (allBelow q xs)) 13 _ (len .1) in
+    let masks = first-clear (not (allBelow q ms)) 14 _ (elements .1) in
+    let each = or-all (not (eqb (length xs) (matrixLength s))) (not (eqb (length ms) (maskLength s))) (not (eqb room (blockLength s))) (len .0) in
+    record {
+      low = inside-low 1 hosts host (who .0);
+      high = inside-high 1 hosts host (who .0);
+      matrix = equal _ _ (each .0);
+      masks = equal _ _ (each .1);
+      out = equal _ _ (each .2);
+      below-matrix = all-below-test q xs (not-false (allBelow q xs) (elements .0));
+      below-masks = all-below-test q ms (not-false (allBelow q ms) (masks .0));
+    }
+
+module _ (m : Matrix) (job : Job) (points : List ℕ) (host : ℕ) (xs ms out : List ℕ) where
+  pub refused : (k : ℕ) → (k ≡ 0 → ⊥) → first (shareTests m job points host xs ms (length out)) ≡ k
+      → (k ≡ first (shareTests m job points host xs ms (length out))) × (out ≡ shareAfter m job points host xs ms out)
+  unfolding shareAfter
+  refused k ne e = (
+    sym e,
+    sym
+        (ap (λ (r : ℕ). answer r (hostShare m job points host xs ms) (λ s. out)) e
+        ∙ answer-refused (hostShare m job points host xs ms) (λ s. out) k ne),
+  )
+
+  pub done : first (shareTests m job points host xs ms (length out)) ≡ 0 → (after : List ℕ) → after ≡ hostShare m job points host xs ms
+      → (0 ≡ first (shareTests m job points host xs ms (length out))) × (after ≡ shareAfter m job points host xs ms out)
+  unfolding shareAfter
+  done e after is = (sym e, is ∙ sym (answer-done (hostShare m job points host xs ms) (λ s. out) _ e))

@@ -1,0 +1,43 @@
+-- A row of a share, in sums of 64 bits.
+--
+--   row-exact    cleared sums, the blocks' part and the masks' part: reduced, they are the row
+use mathlib.Core.Path.{_≡_, refl, ap, _∙_}
+use mathlib.Core.List.{List}
+use Prim.Native.Nat.{ℕ, _+_, _*_, _%_, _^_}
+use native.Mathlib.Omega.{arith}
+use lib.ListN.{length, getD, take, drop}
+use Rattle.algebra.specs.Lists.{tab}
+use Rattle.algebra.proofs.Lists.{length-tab, getD-tab}
+use Rattle.algebra.proofs.Grids.{tab-cong}
+use Rattle.field.specs.declared.Modulus.{Modulus}
+use Rattle.field.specs.Modulus.{prime}
+use Rattle.rows.specs.Combination.{zeros, added, reduced}
+use Rattle.rows.proofs.Exact.{added-more, reduced-tab}
+use Rattle.share.specs.declared.Side.{Side}
+use Rattle.share.specs.Weights.{Ready, blockTerms, maskTerms, rowSums}
+use Rattle.share.proofs.Sums.{row-fits}
+
+module _ (m : Modulus) (s : Side) (w xs ms : List ℕ) (ready : Ready (prime m) s w xs ms) (i : ℕ) (sums out : List ℕ) (same : length sums ≡ length out) where
+  blocks-only : tab (λ j. (getD (zeros sums) j 0 + blockTerms s w xs i j) % 2 ^ 64) (length (zeros sums)) ≡ tab (λ j. blockTerms s w xs i j % 2 ^ 64) (length sums)
+  unfolding zeros
+  blocks-only =
+      ap (tab (λ j. (getD (zeros sums) j 0 + blockTerms s w xs i j) % 2 ^ 64)) (length-tab (λ (j : ℕ). 0) (length sums))
+      ∙ tab-cong _ _ (length sums) (λ j l.
+      let none : getD (zeros sums) j 0 ≡ 0 = getD-tab (λ (k : ℕ). 0) (length sums) j 0 l in
+      let plain : (getD (zeros sums) j 0 + blockTerms s w xs i j) % 2 ^ 64 ≡ blockTerms s w xs i j % 2 ^ 64 = omega arith in
+      plain)
+
+  pub row-exact : (blocks both : List ℕ) → blocks ≡ tab (λ j. (getD (zeros sums) j 0 + blockTerms s w xs i j) % 2 ^ 64) (length (zeros sums))
+      → both ≡ added blocks (take (s .count) (drop (s .down * s .across) w)) (drop (i * s .columns) ms) (s .rows * s .columns)
+      → reduced (prime m) both out ≡ tab (λ j. rowSums s w xs ms i j % prime m) (length out)
+  unfolding rowSums maskTerms
+  row-exact blocks both eb ea =
+      let exact : both ≡ tab (rowSums s w xs ms i) (length out)
+      = ea
+      ∙ added-more _ _ (s .rows * s .columns) (blockTerms s w xs i) (length sums) blocks (eb ∙ blocks-only)
+      ∙ tab-cong _ (rowSums s w xs ms i) (length sums) (λ j l.
+      let fits = row-fits m s w xs ms ready i j in
+      let own : (blockTerms s w xs i j + maskTerms s w ms i j) % 2 ^ 64 ≡ blockTerms s w xs i j + maskTerms s w ms i j = omega arith in
+      own)
+      ∙ ap (tab (rowSums s w xs ms i)) same in
+      ap (λ (l : List ℕ). reduced (prime m) l out) exact ∙ reduced-tab (prime m) (length out) (rowSums s w xs ms i) out refl
