@@ -13,6 +13,7 @@ use lib.Dec.{T}
 use Rattle.refusal.specs.Chain.{Row, first, answer, outside}
 use Rattle.refusal.proofs.Chains.{first-append, first-append-hit, numbered}
 use Rattle.field.specs.Modulus.{moduli, modulus, noModulus, named}
+use Rattle.field.specs.Modulus.{prime as Modulus·prime}
 use Rattle.field.proofs.Moduli.{none-named}
 use Rattle.plan.specs.declared.Job.{Job}
 use Rattle.plan.specs.declared.Planned.the-variants.{Accepted, Refused}

@@ -4,6 +4,7 @@ use Prim.Native.Nat.{ℕ}
 use native.Mathlib.Omega.{arith}
 use lib.ListN.{length}
 use Rattle.refusal.specs.Chain.{first}
+use Rattle.field.specs.Modulus.{prime as Modulus·prime}
 use Rattle.layout.specs.Exponents.{exponents}
 use Rattle.plan.specs.declared.Plan.{Plan}
 use Rattle.plan.specs.Planning.{prime, parameters, layoutOf, planOf, planTests}
