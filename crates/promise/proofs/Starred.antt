@@ -10,15 +10,20 @@ use Prim.Native.Nat.{ℕ, zero, suc}
 use native.Mathlib.Nat.{not-suc-le-zero, le-of-suc-le-suc}
 use lib.Dec.{T, eqb, eqb→eq}
 use Rattle.algebra.proofs.Tests.{and-left, and-right}
-use Rattle.algebra.specs.Lists.{tab}
+use Rattle.algebra.specs.Lists.{tab, grid, entry, allBelow}
+use Rattle.algebra.specs.Sums.{sum}
 use Rattle.refusal.specs.Chain.{first, answer, outside}
 use Rattle.refusal.specs.Limits.{anyOutside, sizesOutside, overBlock}
 use Rattle.field.specs.Modulus.{moduli, modulus, noModulus, named}
-use Rattle.layout.specs.Exponents.{exponents, layout1, layout2, strideD, strideE, better, choice}
+use Rattle.layout.specs.Exponents.{exponents, layout1, layout2, strideD, strideE, better, choice, term}
 use Rattle.plan.specs.Planning.{parameters, prime, modulusOf, blockRows, blockInner, blockColumns, layoutOf, neededOf, planOf}
 use Rattle.plan.specs.Planning.{sizeTest, cutTest, groupTest, divisionTest, blockTest, hostsTest, neededTest, rangeTests, fitTests}
 use Rattle.plan.specs.Planning.{member, pointRows, pointsRows, pointTests, planTests, planned}
-use Rattle.promise.specs.Starred.{Line, Right, starred, answered, plan, thresholds, smallest, jobWith}
+use Rattle.product.specs.Product.{productEntry, productOf, lengthTest, productTests, productAfter}
+use Rattle.share.specs.Sharing.{side, blockEntry, maskEntry, shareEntry, shareOf, point, hostShare, blockLength, matrixLength, maskLength, ownTests, shareTests, shareAfter}
+use Rattle.share.specs.Sharing.{lengthTest as Sharing·lengthTest}
+use Rattle.promise.specs.Starred.{Line, Right, starred, answered, plan, thresholds, smallest, share, jobWith}
+use Rattle.promise.specs.Starred.{answer as Starred·answer}
 
 same : List ℕ → List ℕ → Bool
 same [] [] = true
@@ -46,7 +51,7 @@ all-right (l ∷ ls) t (suc i) h = all-right ls (and-right (same (l .0) (l .1)) 
 
 -- the planning definitions, opened to compute
 computed : T (right starred)
-unfolding right same starred answered plan thresholds smallest jobWith tab first answer outside anyOutside sizesOutside overBlock moduli modulus noModulus named exponents layout1 layout2 strideD strideE better choice parameters prime modulusOf blockRows blockInner blockColumns layoutOf neededOf planOf sizeTest cutTest groupTest divisionTest blockTest hostsTest neededTest rangeTests fitTests member pointRows pointsRows pointTests planTests planned
+unfolding right same starred answered plan thresholds smallest jobWith tab first answer outside anyOutside sizesOutside overBlock moduli modulus noModulus named exponents layout1 layout2 strideD strideE better choice parameters prime modulusOf blockRows blockInner blockColumns layoutOf neededOf planOf sizeTest cutTest groupTest divisionTest blockTest hostsTest neededTest rangeTests fitTests member pointRows pointsRows pointTests planTests planned sum grid entry allBelow term productEntry productOf lengthTest productTests productAfter side blockEntry maskEntry shareEntry shareOf point hostShare blockLength matrixLength maskLength Sharing·lengthTest ownTests shareTests shareAfter share Starred·answer
 computed = tt
 
 pub starred-right : Right starred

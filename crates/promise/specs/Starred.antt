@@ -4,10 +4,13 @@
 --   jobWith ..     == a job over q 257 of the smallest sizes that the cuts divide
 --   plan job       == a plan's refusal number, and of an accepted one the layout and K, with the points 1..N
 --   thresholds     == K by layout 1 and by layout 2
+--   share m x y i  == what sharing leaves at host i of that job, for a matrix of the one element x and a mask of the one
+--                     element y; 99 stands in the output before, and would stay there if the call were refused
+--   answer i       == what the product leaves for host i, with A 5, its mask 7, B 4 and its mask 9
 --   starred        == the table
 --   Right lines    == in each line the two are the same
 use mathlib.Core.Path.{_≡_}
-use mathlib.Core.List.{List, [], _∷_}
+use mathlib.Core.List.{List, [], _∷_, _++_}
 use Prim.Native.Nat.{ℕ, suc, _<_}
 use lib.ListN.{length, getD}
 use Rattle.algebra.specs.Lists.{tab}
@@ -17,6 +20,10 @@ use Rattle.plan.specs.declared.Job.{Job}
 use Rattle.plan.specs.declared.Planned.{Planned}
 use Rattle.plan.specs.declared.Planned.the-variants.{Accepted, Refused}
 use Rattle.plan.specs.Planning.{parameters, planned}
+use Rattle.product.specs.Product.{productAfter}
+use Rattle.share.specs.declared.Matrix.{Matrix}
+use Rattle.share.specs.declared.Matrix.the-variants.{A, B}
+use Rattle.share.specs.Sharing.{shareAfter}
 
 abbrev pub Line : Type 0
 Line = List ℕ × List ℕ
@@ -35,6 +42,12 @@ thresholds job = exponents First (parameters job) .needed ∷ exponents Second (
 unfoldable pub smallest : Job
 smallest = record { modulus = 1; t = 1; s = 1; r = 1; m = 1; p = 1; n = 1; xa = 1; xb = 1; hosts = 3; number = 0 }
 
+unfoldable pub share : Matrix → ℕ → ℕ → ℕ → List ℕ
+share m x y host = shareAfter m smallest (tab suc 3) host (x ∷ []) (y ∷ []) (99 ∷ [])
+
+unfoldable pub answer : ℕ → List ℕ
+answer host = productAfter 1 1 1 1 (share A 5 7 host) (share B 4 9 host) (99 ∷ [])
+
 unfoldable pub jobWith : ℕ → ℕ → ℕ → ℕ → ℕ → ℕ → Job
 jobWith p m n xa xb hosts =
     record { modulus = 2; t = m; s = p; r = n; m = m; p = p; n = n; xa = xa; xb = xb; hosts = hosts; number = 0 }
@@ -43,6 +56,14 @@ unfoldable pub starred : List Line
 starred =
     -- q 13, all sizes and both X 1, points 1, 2, 3: K = 3
     (plan smallest, 0 ∷ 1 ∷ 3 ∷ [])
+    -- A 5 with mask 7 gives shares 12, 6, 0
+    ∷ (share A 5 7 1 ++ (share A 5 7 2 ++ share A 5 7 3), 12 ∷ 6 ∷ 0 ∷ [])
+    -- B 4 with mask 9 gives 0, 9, 5
+    ∷ (share B 4 9 1 ++ (share B 4 9 2 ++ share B 4 9 3), 0 ∷ 9 ∷ 5 ∷ [])
+    -- answers 0, 2, 0
+    ∷ (answer 1 ++ (answer 2 ++ answer 3), 0 ∷ 2 ∷ 0 ∷ [])
+    -- with A = 6, mask 0 gives host 2 the same share 6
+    ∷ (share A 6 0 2, 6 ∷ [])
     -- p, m, n, X_A = X_B: 2, 2, 3, 2 gives 23, layout 1
     ∷ (plan (jobWith 2 2 3 2 2 23), 0 ∷ 1 ∷ 23 ∷ [])
     -- 2, 2, 3, 5 gives 32
