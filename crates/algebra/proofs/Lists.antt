@@ -7,9 +7,9 @@
 --   below-anywhere            past the end of a list stands 0
 --   below-append, below-tab   small numbers after small numbers, and a tabulated list of them
 --   below-drop, below-part    a part of a list
---   below-none, below-more, below-all  the test, element by element
+--   below-none, below-step, below-more, below-all  the test, element by element
 --   below-stop                one element that is not below
-use mathlib.Core.Path.{_≡_, refl, sym, ap, _∙_}
+use mathlib.Core.Path.{_≡_, refl, sym, ap, ap₂, _∙_}
 use mathlib.Core.Bool.{Bool, true, false, _&&_}
 use mathlib.Core.Logic.{⊎-elim}
 use mathlib.Core.List.{List, [], _∷_, _++_}
@@ -94,22 +94,28 @@ pub below-none : (q : ℕ) (xs : List ℕ) → allBelow q (take 0 xs) ≡ true
 unfolding allBelow
 below-none q xs = refl
 
-below-one : (q : ℕ) (xs : List ℕ) (x : ℕ) → allBelow q xs ≡ true → x < q → allBelow q (xs ++ (x ∷ [])) ≡ true
+below-snoc : (q : ℕ) (xs : List ℕ) (x : ℕ) → allBelow q (xs ++ (x ∷ [])) ≡ (allBelow q xs && ltb x q)
 unfolding allBelow
-below-one q [] x t h = ap (λ (b : Bool). b && true) (lt-ltb x q h)
-below-one q (y ∷ xs) x t h = go (ltb y q) t (below-one q xs x)
+below-snoc q [] x = last (ltb x q)
   where
-    go : (b : Bool) → (b && allBelow q xs) ≡ true → (allBelow q xs ≡ true → x < q → allBelow q (xs ++ (x ∷ [])) ≡ true)
-        → (b && allBelow q (xs ++ (x ∷ []))) ≡ true
-    go true t ih = ih t h
-    go false t ih = t
+    last : (b : Bool) → (b && true) ≡ b
+    last true = refl
+    last false = refl
+below-snoc q (y ∷ xs) x = go (ltb y q) (below-snoc q xs x)
+  where
+    go : (b : Bool) → allBelow q (xs ++ (x ∷ [])) ≡ (allBelow q xs && ltb x q) → (b && allBelow q (xs ++ (x ∷ []))) ≡ (b && allBelow q xs && ltb x q)
+    go true e = e
+    go false e = refl
+
+pub below-step : (q : ℕ) (xs : List ℕ) (i : ℕ) → i < length xs → allBelow q (take (i + 1) xs) ≡ (allBelow q (take i xs) && ltb (getD xs i 0) q)
+below-step q xs i h = rw (add-one, take-suc xs i 0 h) (below-snoc q (take i xs) (getD xs i 0))
 
 pub below-more : (q : ℕ) (xs : List ℕ) (i : ℕ) → i < length xs → allBelow q (take i xs) ≡ true → getD xs i 0 < q
     → allBelow q (take (i + 1) xs) ≡ true
-below-more q xs i h t b = rw (add-one, take-suc xs i 0 h) (below-one q (take i xs) (getD xs i 0) t b)
+below-more q xs i h t b = below-step q xs i h ∙ ap₂ _&&_ t (lt-ltb (getD xs i 0) q b)
 
-pub below-all : (q : ℕ) (xs : List ℕ) (n : ℕ) → length xs ≤ n → allBelow q (take n xs) ≡ true → allBelow q xs ≡ true
-below-all q xs n h t = ap (allBelow q) (sym (take-all n xs h)) ∙ t
+pub below-all : (q : ℕ) (xs : List ℕ) (n : ℕ) → length xs ≤ n → allBelow q xs ≡ allBelow q (take n xs)
+below-all q xs n h = ap (allBelow q) (sym (take-all n xs h))
 
 pub below-stop : (q : ℕ) (xs : List ℕ) (i : ℕ) → i < length xs → q ≤ getD xs i 0 → allBelow q xs ≡ false
 below-stop q xs i h l =

@@ -5,13 +5,15 @@
 --   both                      a conjunction from its parts
 --   or-left, or-right         the parts of a disjunction that failed
 --   or-all                    the three parts of one
+--   neither                   a disjunction that is negated
+--   not-leb                   a comparison that is negated
 --   equal                     two numbers that passed the test of being equal
-use mathlib.Core.Path.{_≡_, refl}
+use mathlib.Core.Path.{_≡_, refl, sym, ap, _∙_}
 use mathlib.Core.Bool.{Bool, true, false, not, _&&_, _||_, true≢false}
-use mathlib.Core.Logic.{_⊎_, inl, inr}
+use mathlib.Core.Logic.{_⊎_, inl, inr, ⊎-elim}
 use Prim.Native.Nat.{ℕ}
-use lib.Dec.{T, eqb}
-use borrow.Author.Tests.{eqb-true, not-false}
+use lib.Dec.{T, eqb, leb, ltb}
+use borrow.Author.Tests.{eqb-true, leb-true, leb-false, lt-ltb, le-ltb, not-false}
 
 pub by-test : (t : Bool) → (t ≡ true) ⊎ (t ≡ false)
 by-test true = inl refl
@@ -44,3 +46,12 @@ or-all a b c e =
 
 pub equal : (a b : ℕ) → not (eqb a b) ≡ false → a ≡ b
 equal a b e = eqb-true a b (not-false (eqb a b) e)
+
+pub neither : (a b : Bool) → not (a || b) ≡ (not a && not b)
+neither true b = refl
+neither false b = refl
+
+pub not-leb : (a b : ℕ) → not (leb a b) ≡ ltb b a
+not-leb a b =
+    ⊎-elim (λ (t : leb a b ≡ true). ap not t ∙ sym (le-ltb b a (leb-true a b t))) (λ (f : leb a b ≡ false). ap not f ∙ sym (lt-ltb b a (leb-false a b f)))
+    (by-test (leb a b))

@@ -7,23 +7,23 @@ ghost use Rattle.algebra.specs.Lists.{allBelow};
 ghost use Rattle.field.specs.Modulus.{prime};
 ghost use Rattle.elements.specs.Bytes.{bytesOf, elementsOf, common};
 use field::Modulus;
+use refusal::either;
 use words::least;
 use words::low_byte;
 use words::word;
 
-// Every element is below the prime.
+// Every element is below the prime. The loop has no early end, so that several elements can be compared at once.
 pub fn all_below(modulus: Modulus, xs: &[u32]) -> bool
     ensures { λ r. ⌜ r ≡ allBelow (prime modulus) (now (xs .entry)) ⌝ }
 {
     let q = field::prime_of(modulus);
+    let mut over = false;
     let mut i = 0;
     while i < xs.len() {
-        if q <= xs[i] {
-            return false;
-        }
+        over = either(over, q <= xs[i]);
         i += 1;
     }
-    true
+    !over
 }
 
 // Every element that the bytes hold is below the prime.

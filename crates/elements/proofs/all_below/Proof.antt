@@ -1,37 +1,37 @@
 -- `elements::all_below` meets its contract.
-use mathlib.Core.Path.{_≡_, sym}
-use mathlib.Core.Bool.{true}
+use mathlib.Core.Path.{_≡_, sym, ap, ap₂, _∙_}
+use mathlib.Core.Bool.{not, _&&_}
 use Prim.Native.Nat.{_-_, _≤_}
 use native.Mathlib.Omega.{arith}
 use borrow.Author.Needs.{needs}
-use lib.ListN.{length, take}
+use lib.Dec.{leb}
+use lib.ListN.{length, take, getD}
 use Rattle.algebra.specs.Lists.{allBelow}
-use Rattle.algebra.proofs.Lists.{below-none, below-more, below-all, below-stop}
+use Rattle.algebra.proofs.Tests.{neither, not-leb}
+use Rattle.algebra.proofs.Lists.{below-none, below-step, below-all}
 use Rattle.elements.proofs.all_below.Statement.{statement}
 use Rattle.elements.proofs.all_below.Tie as tie
 
 abbrev Inv-loop : tie.InvT-loop
-Inv-loop xs q i₀ i = record { short : i ≤ length xs; below : allBelow q (take i xs) ≡ true }
+Inv-loop xs q over₀ i₀ over i = record { is : not over ≡ allBelow q (take i xs); short : i ≤ length xs }
 
 abbrev μ-loop : tie.MeasureT-loop
-μ-loop xs q i₀ i = length xs - i
+μ-loop xs q over₀ i₀ over i = length xs - i
 
 prime-of-requires : tie.Need-prime-of-requires Inv-loop μ-loop
 prime-of-requires c κs = search needs
 
 loop-holds : tie.Need-loop-holds Inv-loop μ-loop
-loop-holds c = record { short = omega arith; below = below-none (c .prime-of .result) (c .before .before .args .xs .now) }
+loop-holds c = record { is = sym (below-none (c .prime-of .result) (c .before .before .args .xs .now)); short = omega arith }
 
-mul-if1 : tie.Need-mul-if1 Inv-loop μ-loop
-mul-if1 c = omega arith
+mul-either : tie.Need-mul-either Inv-loop μ-loop
+mul-either c = omega arith
 
-shared-slice-read-if1 : tie.Need-shared-slice-read-if1 Inv-loop μ-loop
-shared-slice-read-if1 c = omega arith
+shared-slice-read-either : tie.Need-shared-slice-read-either Inv-loop μ-loop
+shared-slice-read-either c = omega arith
 
-returns : tie.Need-returns Inv-loop μ-loop
-returns c =
-    let l = c .before .before .before in
-    rw (← l .before .prime-of .ensures) (sym (below-stop (l .before .prime-of .result) (l .before .before .before .args .xs .now) (l .loop .i) (omega arith) (c .if1 .taken)))
+either-requires : tie.Need-either-requires Inv-loop μ-loop
+either-requires c κs = search needs
 
 add-i : tie.Need-add-i Inv-loop μ-loop
 add-i c = omega arith
@@ -42,16 +42,23 @@ loop-less c = omega arith
 loop-again : tie.Need-loop-again Inv-loop μ-loop
 loop-again c =
     let l = c .before .before .before in
+    let xs = l .before .before .before .args .xs .now in
+    let q = l .before .prime-of .result in
+    let i = l .loop .i in
     record {
+      is =
+          ap not (c .either .ensures)
+          ∙ neither (l .loop .over) (leb q (getD xs i 0))
+          ∙ ap₂ _&&_ (l .loop .inv .is) (not-leb q (getD xs i 0))
+          ∙ sym (below-step q xs i (omega arith));
       short = omega arith;
-      below = below-more (l .before .prime-of .result) (l .before .before .before .args .xs .now) (l .loop .i) (omega arith) (l .loop .inv .below) (c .if1 .left);
     }
 
-returns-2 : tie.Need-returns-2 Inv-loop μ-loop
-returns-2 c =
+returns : tie.Need-returns Inv-loop μ-loop
+returns c =
     let l = c .before in
-    rw (← l .before .prime-of .ensures)
-    (sym (below-all (l .before .prime-of .result) (l .before .before .before .args .xs .now) (l .loop .i) (c .loop-test .left) (l .loop .inv .below)))
+    let xs = l .before .before .before .args .xs .now in
+    rw (← l .before .prime-of .ensures) (l .loop .inv .is ∙ sym (below-all (l .before .prime-of .result) xs (l .loop .i) (c .loop-test .left)))
 
 pub all-below-spec : {M : Type 1} → statement M
 all-below-spec =
@@ -61,10 +68,10 @@ all-below-spec =
     μ-loop
     prime-of-requires
     loop-holds
-    mul-if1
-    shared-slice-read-if1
-    returns
+    mul-either
+    shared-slice-read-either
+    either-requires
     add-i
     loop-less
     loop-again
-    returns-2)
+    returns)

@@ -1,5 +1,5 @@
 -- `elements::bytes_below` meets its contract.
-use mathlib.Core.Path.{_≡_, sym}
+use mathlib.Core.Path.{_≡_, sym, _∙_}
 use mathlib.Core.Bool.{true}
 use Prim.Native.Nat.{_-_, _/_, _≤_}
 use native.Mathlib.Omega.{arith}
@@ -87,7 +87,7 @@ returns-2 c =
     let bytes = l .before .before .before .args .bytes .now in
     let n = length bytes / 4 in
     rw (← l .before .prime-of .ensures)
-    (sym (below-all (l .before .prime-of .result) (elementsOf n bytes) (l .loop .i) (omega (arith, length-elements n bytes)) (l .loop .inv .below)))
+    (sym (below-all (l .before .prime-of .result) (elementsOf n bytes) (l .loop .i) (omega (arith, length-elements n bytes)) ∙ l .loop .inv .below))
 
 pub bytes-below-spec : {M : Type 1} → statement M
 bytes-below-spec =
