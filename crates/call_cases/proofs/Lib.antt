@@ -1,0 +1,2 @@
+-- Laws for the proofs of `call_cases`.
+pub mod Counts
