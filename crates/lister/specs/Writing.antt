@@ -7,13 +7,13 @@ use mathlib.Core.Path.{_≡_}
 use mathlib.Core.List.{List, [], _∷_}
 use Prim.Native.Nat.{ℕ, _+_, _≤_}
 use lib.ListN.{length}
-use Rattle.algebra.specs.Lists.{tab}
+use Rattle.algebra.specs.Lists.{tab, grid}
 use Rattle.layout.specs.declared.Parameters.{Parameters}
 use Rattle.layout.specs.declared.Layout.{Layout}
 use Rattle.layout.specs.Exponents.{exponents, term}
 use Rattle.text.specs.Decimal.{put}
 use Rattle.lister.specs.declared.Side.{Side}
-use Rattle.lister.specs.Listing.{sideLine, grid}
+use Rattle.lister.specs.Listing.{sideLine}
 
 pub record Writes (before : List ℕ) (at : ℕ) (text after : List ℕ) (end : ℕ) : Type 0 where
   pub kept : length after ≡ length before
