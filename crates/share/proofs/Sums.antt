@@ -1,7 +1,6 @@
 -- The sums of weighted rows are those of the sheet's formula, and fit 64 bits.
 --
---   weights-length  as many weights as a side has
---   weights-below   each below q
+--   weights-below   the weights are below q
 --   share-exact     the sums modulo q are the share
 --   row-fits        at most 80 products of elements are summed
 use mathlib.Core.Path.{_≡_, ap, _∙_}
@@ -9,7 +8,7 @@ use mathlib.Core.List.{List, _++_, append-assoc}
 use Prim.Native.Nat.{ℕ, _+_, _*_, _%_, _^_, _<_, _≤_}
 use native.Mathlib.Nat.{le-trans, mod-lt, mul-comm, mul-le-mul, mul-le-mul-right}
 use native.Mathlib.Omega.{arith}
-use lib.ListN.{length, getD, take, drop, length-append, length-take}
+use lib.ListN.{length, getD, take, drop, length-take}
 use lib.Seq.{getD-drop, take-at, drop-at}
 use Rattle.algebra.specs.Lists.{tab, grid, entry, AllBelow}
 use Rattle.algebra.specs.Sums.{sum}
@@ -26,7 +25,7 @@ use Rattle.rows.specs.Combination.{combination}
 use Rattle.rows.proofs.Exact.{combination-below}
 use Rattle.share.specs.declared.Side.{Side}
 use Rattle.share.specs.Sharing.{blockEntry, maskEntry, shareEntry, shareOf}
-use Rattle.share.specs.Weights.{Ready, weightsOf, weightCount, blockTerms, maskTerms, rowSums}
+use Rattle.share.specs.Weights.{Ready, weightsOf, blockTerms, maskTerms, rowSums}
 
 -- a combination whose weights are those of g modulo q, and whose elements in column j are those of h
 weighted : (q n : ℕ) (g h : ℕ → ℕ) (weights source : List ℕ) (stride j : ℕ) → weights ≡ tab (λ l. g l % q) n
@@ -60,10 +59,6 @@ module _ (q : ℕ) (e : Exponents) (s : Side) (x : ℕ) where
   length-masks : length masks ≡ s .count
   unfolding masks
   length-masks = length-tab (λ y. mask y % q) (s .count)
-
-  pub weights-length : length (weightsOf q e s x) ≡ weightCount s
-  unfolding weightsOf weightCount blocks masks block mask
-  weights-length = omega (arith, length-append blocks masks, length-blocks, length-masks)
 
   pub weights-below : (rest : List ℕ) → 0 < q → AllBelow q rest → AllBelow q (weightsOf q e s x ++ rest)
   unfolding weightsOf blocks masks block mask
