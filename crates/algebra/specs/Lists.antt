@@ -1,6 +1,7 @@
 -- Lists by index, and matrices as lists, row by row.
 --
 --   tab f n       == f 0, f 1, .., f (n - 1)
+--   stack f n     == the lists f 0, f 1, .., f (n - 1), one after another
 --   grid f rows columns   == f row by row
 --   entry columns xs i j  == the element at row i and column j of a matrix with that many columns
 --   AllBelow q xs == each element of xs is below q
@@ -16,6 +17,10 @@ use lib.ListN.{length, getD}
 unfoldable pub tab {ℓ} : {A : Type ℓ} → (ℕ → A) → ℕ → List A
 tab f zero = []
 tab f (suc n) = tab f n ++ (f n ∷ [])
+
+unfoldable pub stack : (ℕ → List ℕ) → ℕ → List ℕ
+stack f zero = []
+stack f (suc n) = stack f n ++ f n
 
 unfoldable pub grid : (ℕ → ℕ → ℕ) → ℕ → ℕ → List ℕ
 grid f zero columns = []

@@ -1,2 +1,3 @@
 -- Promises over the definitions that the contracts cite.
 pub mod Starred
+pub mod Demand3

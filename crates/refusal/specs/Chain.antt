@@ -2,12 +2,13 @@
 --
 --   Row              == a test, and the number that is told where it holds
 --   first rows       == the number of the first test that holds, and 0 where none does: the call is carried out
+--   except n rows    == the tests but those of number n
 --   answer n v r     == v where the number n is 0, and r n otherwise
 --   outside a b n    == n is not in a..b
 use mathlib.Core.Bool.{Bool, cond, _||_}
 use mathlib.Core.List.{List, [], _∷_}
 use Prim.Native.Nat.{ℕ, zero, suc}
-use lib.Dec.{ltb}
+use lib.Dec.{ltb, eqb}
 
 abbrev pub Row : Type 0
 Row = Bool × ℕ
@@ -15,6 +16,10 @@ Row = Bool × ℕ
 unfoldable pub first : List Row → ℕ
 first [] = 0
 first (row ∷ rows) = let rest = first rows in cond (row .0) (row .1) rest
+
+unfoldable pub except : ℕ → List Row → List Row
+except n [] = []
+except n (row ∷ rows) = let rest = except n rows in cond (eqb (row .1) n) rest (row ∷ rest)
 
 unfoldable pub answer : {A : Type 0} → ℕ → A → (ℕ → A) → A
 answer zero value refused = value

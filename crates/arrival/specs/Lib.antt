@@ -1,0 +1,2 @@
+-- Arrivals: an answer's message is taken into the store, or refused.
+pub mod Arriving

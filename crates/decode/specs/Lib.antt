@@ -1,0 +1,2 @@
+-- Decoding: the table from the answers of the K lowest-numbered hosts heard.
+pub mod Decoding

@@ -1,0 +1,2 @@
+-- The hosts heard, as one number.
+pub mod Heard

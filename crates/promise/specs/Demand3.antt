@@ -1,0 +1,268 @@
+-- Demand 3 (00), in the words of 01, "Arrivals".
+-- A place counts from 0: host i is at place i - 1.
+--
+--   Task                 == a job: its public numbers, its points and its matrices
+--   publicNumbers x      == the numbers that a host may know
+--   Accepted x           == the job is accepted
+--   SamePublic x y       == two jobs with the same public numbers and points
+--   Masks m x ms         == ms are masks for matrix m
+--   largest m x          == X_A or X_B: the size of the largest group kept ignorant of matrix m
+--   shareMessage m x i ms     == host i's A message or B message
+--   trueProduct x i ma mb     == host i's true product, as a message
+--   Hidden m x y g       == the masks of two jobs match one to one, so that every host of the group g gets the same bytes
+--   Call, State, Reply   == an arrival or a decoding; what is carried from call to call; what a call answers
+--   after, reply         == what a call leaves, and what it answers
+--   run, replies         == what a list of calls leaves, and what each of them answers
+--   fit                  == an arrival is fit
+--   hasFit, firstFit     == a host has a fit message in a list of calls, and its first
+--   unanswered           == what stands where there is no reply
+--   Trace                == the claim about a whole list of arrivals and decodings
+--   Made                 == the messages are what sharing, the host's product and writing give
+--   Demand3              == the demand
+use mathlib.Core.Path.{_≡_}
+use mathlib.Core.Bool.{Bool, true, false, cond, _&&_, _||_}
+use mathlib.Core.Logic.{_↔_}
+use mathlib.Core.List.{List, [], _∷_, _++_}
+use Prim.Native.Nat.{ℕ, suc, _+_, _*_, _^_, _<_, _≤_}
+use lib.Dec.{eqb}
+use lib.ListN.{length, getD}
+use Rattle.algebra.specs.Lists.{AllBelow}
+use Rattle.algebra.specs.Sets.{size}
+use Rattle.refusal.specs.Chain.{Row, first, except}
+use Rattle.plan.specs.declared.Job.{Job}
+use Rattle.plan.specs.Planning.{prime, blockRows, blockInner, blockColumns, neededOf, planOf, planTests}
+use Rattle.share.specs.declared.Matrix.{Matrix}
+use Rattle.share.specs.declared.Matrix.the-variants.{A, B}
+use Rattle.share.specs.Sharing.{side, hostShare, maskLength, blockLength, shareAfter}
+use Rattle.product.specs.Product.{productOf, productAfter}
+use Rattle.message.specs.declared.Header.{Header}
+use Rattle.message.specs.Format.{messageOf, elementCount, written}
+use Rattle.heard.specs.Heard.{isHeard}
+use Rattle.arrival.specs.Arriving.{storeLength, place, arrivalTests, arrived, storeAfter, numberOf, heardAfter}
+use Rattle.decode.specs.Decoding.{tableLength, decodeTests, tableAfter}
+
+pub record Task : Type 0 where
+  pub numbers : Job
+  pub points : List ℕ
+  pub a : List ℕ
+  pub b : List ℕ
+
+unfoldable pub matrix : Matrix → Task → List ℕ
+matrix A x = x .a
+matrix B x = x .b
+
+-- "A job is accepted when no plan number fits it, A and B have exact length and their elements are below q." Its job number is
+-- any 32-bit value.
+pub record Accepted (x : Task) : Type 0 where
+  pub planned : first (planTests (x .numbers) (x .points)) ≡ 0
+  pub length-a : length (x .a) ≡ x .numbers .t * x .numbers .s
+  pub length-b : length (x .b) ≡ x .numbers .s * x .numbers .r
+  pub below-a : AllBelow (prime (x .numbers)) (x .a)
+  pub below-b : AllBelow (prime (x .numbers)) (x .b)
+  pub number : x .numbers .number < 2 ^ 32
+
+-- "Its public numbers are modulus number, t, s, r, m, p, n, X_A, X_B, N and job number."
+unfoldable pub publicNumbers : Task → List ℕ
+publicNumbers x =
+    let job = x .numbers in
+    job .modulus
+    ∷ job .t
+    ∷ job .s
+    ∷ job .r
+    ∷ job .m
+    ∷ job .p
+    ∷ job .n
+    ∷ job .xa
+    ∷ job .xb
+    ∷ job .hosts
+    ∷ job .number
+    ∷ []
+
+pub record SamePublic (x y : Task) : Type 0 where
+  pub numbers : publicNumbers x ≡ publicNumbers y
+  pub points : x .points ≡ y .points
+
+-- "Masks are any lists of exact length with elements below q."
+pub record Masks (m : Matrix) (x : Task) (ms : List ℕ) : Type 0 where
+  pub exact : length ms ≡ maskLength (side m (planOf (x .numbers)))
+  pub below : AllBelow (prime (x .numbers)) ms
+
+unfoldable pub largest : Matrix → Task → ℕ
+largest A x = x .numbers .xa
+largest B x = x .numbers .xb
+
+-- 1 = A share, 2 = B share
+unfoldable pub kindOf : Matrix → ℕ
+kindOf A = 1
+kindOf B = 2
+
+-- the header for the job's numbers and host i
+unfoldable pub headerFor : ℕ → Task → ℕ → ℕ → ℕ → Header
+headerFor kind x i rows columns = record {
+  kind = kind;
+  modulus = x .numbers .modulus;
+  host = i;
+  rows = rows;
+  columns = columns;
+  number = x .numbers .number;
+}
+
+unfoldable pub shareHeader : Matrix → Task → ℕ → Header
+shareHeader m x i = let s = side m (planOf (x .numbers)) in headerFor (kindOf m) x i (s .rows) (s .columns)
+
+unfoldable pub answerHeader : Task → ℕ → Header
+answerHeader x i = headerFor 3 x i (blockRows (x .numbers)) (blockColumns (x .numbers))
+
+-- "Host i's A message is the one for kind 1, the job's numbers, host i and its A share. Its B message is the same with kind 2
+-- and its B share"
+unfoldable pub shareMessage : Matrix → Task → ℕ → List ℕ → List ℕ
+shareMessage m x i ms = messageOf (shareHeader m x i) (hostShare m (x .numbers) (x .points) i (matrix m x) ms)
+
+-- "its true product with kind 3 and its A share times its B share"
+unfoldable pub trueProduct : Task → ℕ → List ℕ → List ℕ → List ℕ
+trueProduct x i ma mb =
+    let job = x .numbers in
+    messageOf (answerHeader x i)
+    (productOf (prime job) (blockRows job) (blockInner job) (blockColumns job)
+    (hostShare A job (x .points) i (x .a) ma)
+    (hostShare B job (x .points) i (x .b) mb))
+
+-- "each list of one job has one partner among the other's, and each of the other's is the partner of exactly one. Under
+-- partners every host of the group gets the same bytes in both jobs"
+pub record Hidden (m : Matrix) (x y : Task) (g : ℕ → Bool) : Type 0 where
+  pub partner : List ℕ → List ℕ
+  pub back : List ℕ → List ℕ
+  pub partner-masks : (ms : List ℕ) → Masks m x ms → Masks m y (partner ms)
+  pub back-masks : (ms : List ℕ) → Masks m y ms → Masks m x (back ms)
+  pub back-partner : (ms : List ℕ) → Masks m x ms → back (partner ms) ≡ ms
+  pub partner-back : (ms : List ℕ) → Masks m y ms → partner (back ms) ≡ ms
+  pub same-bytes : (ms : List ℕ) → Masks m x ms → (i : ℕ) → i < x .numbers .hosts → g i ≡ true
+      → shareMessage m x (suc i) ms ≡ shareMessage m y (suc i) (partner ms)
+
+-- an arrival with its bytes, or a decoding with its table as it stood before
+pub data Call : Type 0 where
+  arrival : List ℕ → Call
+  decoding : List ℕ → Call
+
+pub record State : Type 0 where
+  pub heard : ℕ
+  pub store : List ℕ
+
+-- a decoding's table, as the call leaves it; an arrival has none
+pub record Reply : Type 0 where
+  pub number : ℕ
+  pub table : List ℕ
+
+-- no reply, and so no number of the sheet
+unfoldable pub unanswered : Reply
+unanswered = record { number = 99; table = [] }
+
+module _ (x : Task) where
+  -- "Each later one takes the hosts heard and the store as the one before left them, a refused one too; nobody writes in the
+  -- store between, and a decoding changes neither."
+  unfoldable pub after : State → Call → State
+  after s (arrival message) = record {
+    heard = heardAfter (s .heard) (arrived (x .numbers) (x .points) (s .heard) (s .store) message);
+    store = storeAfter (x .numbers) (x .points) (s .heard) (s .store) message;
+  }
+  after s (decoding table) = s
+
+  unfoldable pub reply : State → Call → Reply
+  reply s (arrival message) = record {
+    number = numberOf (arrived (x .numbers) (x .points) (s .heard) (s .store) message);
+    table = [];
+  }
+  reply s (decoding table) = record {
+    number = first (decodeTests (x .numbers) (x .points) (s .heard) (s .store) (length table));
+    table = tableAfter (x .numbers) (x .points) (s .heard) (s .store) table;
+  }
+
+  unfoldable pub run : State → List Call → State
+  run s [] = s
+  run s (c ∷ cs) = run (after s c) cs
+
+  unfoldable pub replies : State → List Call → List Reply
+  replies s [] = []
+  replies s (c ∷ cs) = reply s c ∷ replies (after s c) cs
+
+  -- "An arrival is fit when, 21 and 23 aside, no refusal number for arrivals fits it"
+  unfoldable pub fit : State → List ℕ → Bool
+  fit s message = eqb (first (except 21 (except 23 (arrivalTests (x .numbers) (x .points) (s .heard) (length (s .store)) message)))) 0
+
+  -- "its message is then a fit message of the host it names"
+  unfoldable pub fitFor : State → ℕ → Call → Bool
+  fitFor s i (arrival message) = fit s message && eqb (place message) i
+  fitFor s i (decoding table) = false
+
+  unfoldable pub hasFit : State → List Call → ℕ → Bool
+  hasFit s [] i = false
+  hasFit s (c ∷ cs) i = fitFor s i c || hasFit (after s c) cs i
+
+  unfoldable pub bytes : Call → List ℕ
+  bytes (arrival message) = message
+  bytes (decoding table) = []
+
+  -- "A host's first is that of the earliest such arrival in the list."
+  unfoldable pub firstFit : State → List Call → ℕ → List ℕ
+  firstFit s [] i = []
+  firstFit s (c ∷ cs) i = let later = firstFit (after s c) cs i in cond (fitFor s i c) (bytes c) later
+
+-- no garden heard, and whatever the store held
+unfoldable pub begin : List ℕ → State
+begin store = record { heard = 0; store = store }
+
+pub record Trace (x : Task) (ma mb store : List ℕ) (calls : List Call) : Type 0 where
+  -- "after it the gardens heard are exactly those with a fit message in it"
+  pub heard : (i : ℕ) → isHeard (run x (begin store) calls .heard) i ≡ hasFit x (begin store) calls i
+  pub none-above : run x (begin store) calls .heard < 2 ^ x .numbers .hosts
+  -- "each decoding in it, into a table of exact length, is carried out exactly when at least K gardens had a fit message
+  -- before it"
+  pub carried-out : (before rest : List Call) (table : List ℕ) → calls ≡ before ++ (decoding table ∷ rest)
+      → length table ≡ tableLength (x .numbers)
+      → (getD (replies x (begin store) calls) (length before) unanswered .number ≡ 0)
+      ↔ (neededOf (x .numbers) ≤ size (hasFit x (begin store) before) (x .numbers .hosts))
+  -- "and then its table, where the first fit message of each garden heard is that garden's true product, is exactly the job's
+  -- own A times B over the field"
+  pub exact : (before rest : List Call) (table : List ℕ) → calls ≡ before ++ (decoding table ∷ rest)
+      → length table ≡ tableLength (x .numbers)
+      → neededOf (x .numbers) ≤ size (hasFit x (begin store) before) (x .numbers .hosts)
+      → ((i : ℕ) → i < x .numbers .hosts → hasFit x (begin store) before i ≡ true
+      → firstFit x (begin store) before i ≡ trueProduct x (suc i) ma mb)
+      → getD (replies x (begin store) calls) (length before) unanswered .table
+      ≡ productOf (prime (x .numbers)) (x .numbers .t) (x .numbers .s) (x .numbers .r) (x .a) (x .b)
+
+-- "Shares, products, K and the bytes of messages are as laid out above, which is what sharing, the host's product, planning and
+-- writing give." The lent buffers are of exact length, and whatever they held.
+pub record Made (x : Task) (i : ℕ) (ma mb : List ℕ) : Type 0 where
+  pub share : (m : Matrix) (ms out message : List ℕ) → Masks m x ms
+      → length out ≡ blockLength (side m (planOf (x .numbers)))
+      → length message ≡ 16 + 4 * elementCount (shareHeader m x i)
+      → written (shareHeader m x i) (shareAfter m (x .numbers) (x .points) i (matrix m x) ms out) message ≡ shareMessage m x i ms
+  pub product : (out-a out-b out message : List ℕ) → length out-a ≡ blockLength (side A (planOf (x .numbers)))
+      → length out-b ≡ blockLength (side B (planOf (x .numbers)))
+      → length out ≡ blockRows (x .numbers) * blockColumns (x .numbers)
+      → length message ≡ 16 + 4 * elementCount (answerHeader x i)
+      → written (answerHeader x i)
+      (productAfter (x .numbers .modulus) (blockRows (x .numbers)) (blockInner (x .numbers)) (blockColumns (x .numbers))
+      (shareAfter A (x .numbers) (x .points) i (x .a) ma out-a)
+      (shareAfter B (x .numbers) (x .points) i (x .b) mb out-b)
+      out)
+      message
+      ≡ trueProduct x i ma mb
+
+pub record Demand3 : Type 0 where
+  -- "Between two accepted jobs with the same public numbers and points but other matrices, and for any group of gardens chosen
+  -- beforehand, the masks match one to one so that a group of at most X_A gets byte-equal A messages, and one of at most X_B
+  -- byte-equal B messages."
+  pub hidden : (m : Matrix) (x y : Task) → Accepted x → Accepted y → SamePublic x y → (g : ℕ → Bool)
+      → size g (x .numbers .hosts) ≤ largest m x → Hidden m x y g
+  -- "Yet for either job, under any masks, and for every list of arrivals and decodings of it, in any order, refused ones
+  -- included, from no garden heard and whatever the store held: .."
+  pub yet : (x : Task) → Accepted x → (ma mb : List ℕ) → Masks A x ma → Masks B x mb → (store : List ℕ)
+      → length store ≡ storeLength (x .numbers) → (calls : List Call) → Trace x ma mb store calls
+  -- "A true product's bytes never make an arrival unfit."
+  pub true-fit : (x : Task) → Accepted x → (ma mb : List ℕ) → Masks A x ma → Masks B x mb → (s : State)
+      → length (s .store) ≡ storeLength (x .numbers) → (i : ℕ) → i < x .numbers .hosts
+      → fitFor x s i (arrival (trueProduct x (suc i) ma mb)) ≡ true
+  pub made : (x : Task) → Accepted x → (ma mb : List ℕ) → Masks A x ma → Masks B x mb → (i : ℕ) → i < x .numbers .hosts
+      → Made x (suc i) ma mb
