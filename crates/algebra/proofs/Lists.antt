@@ -4,6 +4,7 @@
 --   take-tab                  the first elements of a tabulated list
 --   fill-none, fill-more, fill-all  a list that is filled from the front becomes a tabulated one
 --   all-below-test            what the test `allBelow` tells
+--   below-test                a list of small numbers passes it
 --   below-anywhere            past the end of a list stands 0
 --   below-append, below-tab   small numbers after small numbers, and a tabulated list of them
 --   below-drop, below-part    a part of a list
@@ -13,7 +14,7 @@ use mathlib.Core.Path.{_≡_, refl, sym, ap, ap₂, _∙_}
 use mathlib.Core.Bool.{Bool, true, false, _&&_}
 use mathlib.Core.Logic.{⊎-elim}
 use mathlib.Core.List.{List, [], _∷_, _++_}
-use Prim.Native.Nat.{ℕ, zero, suc, _+_, _<_, _≤_}
+use Prim.Native.Nat.{ℕ, zero, suc, _+_, _<_, _≤_, suc-le-suc}
 use native.Mathlib.Nat.{not-suc-le-zero, le-of-suc-le-suc, eq-or-lt-of-le}
 use native.Mathlib.Numerals.{add-one}
 use native.Mathlib.Omega.{arith}
@@ -66,6 +67,11 @@ all-below q (x ∷ xs) t (suc i) h = all-below q xs (and-right (ltb x q) (allBel
 
 pub all-below-test : (q : ℕ) (xs : List ℕ) → allBelow q xs ≡ true → AllBelow q xs
 all-below-test q xs e = all-below q xs (rw e tt)
+
+pub below-test : (q : ℕ) (xs : List ℕ) → AllBelow q xs → allBelow q xs ≡ true
+unfolding allBelow
+below-test q [] h = refl
+below-test q (x ∷ xs) h = ap₂ _&&_ (lt-ltb x q (h 0 (omega arith))) (below-test q xs (λ i l. h (suc i) (suc-le-suc l)))
 
 pub below-anywhere : (q : ℕ) (xs : List ℕ) → 0 < q → AllBelow q xs → (i : ℕ) → getD xs i 0 < q
 below-anywhere q xs pos h i =

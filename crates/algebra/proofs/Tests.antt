@@ -8,12 +8,13 @@
 --   neither                   a disjunction that is negated
 --   not-leb                   a comparison that is negated
 --   equal                     two numbers that passed the test of being equal
+--   alike                     two equal numbers pass it
 use mathlib.Core.Path.{_≡_, refl, sym, ap, _∙_}
 use mathlib.Core.Bool.{Bool, true, false, not, _&&_, _||_, true≢false}
 use mathlib.Core.Logic.{_⊎_, inl, inr, ⊎-elim}
 use Prim.Native.Nat.{ℕ}
 use lib.Dec.{T, eqb, leb, ltb}
-use borrow.Author.Tests.{eqb-true, leb-true, leb-false, lt-ltb, le-ltb, not-false}
+use borrow.Author.Tests.{eqb-true, eq-eqb, leb-true, leb-false, lt-ltb, le-ltb, not-false}
 
 pub by-test : (t : Bool) → (t ≡ true) ⊎ (t ≡ false)
 by-test true = inl refl
@@ -46,6 +47,9 @@ or-all a b c e =
 
 pub equal : (a b : ℕ) → not (eqb a b) ≡ false → a ≡ b
 equal a b e = eqb-true a b (not-false (eqb a b) e)
+
+pub alike : (a b : ℕ) → a ≡ b → not (eqb a b) ≡ false
+alike a b e = ap not (eq-eqb a b e)
 
 pub neither : (a b : Bool) → not (a || b) ≡ (not a && not b)
 neither true b = refl

@@ -1,3 +1,4 @@
 -- Laws of refusals and limits.
 pub mod Chains
+pub mod Except
 pub mod Limits

@@ -1,0 +1,248 @@
+-- Shares, products and messages of an accepted job are made: no call that makes them is refused.
+--
+--   Sizes, sizes       the sizes of an accepted job's blocks
+--   side-sizes         those of a side
+--   fields-pass        a header with numbers in range
+--   share-length, share-below    a share fills its block, with elements below q
+--   product-length, product-below  so does an answer
+--   share-done         sharing is carried out
+--   share-written      so is writing a share's message
+--   product-done, product-written  the same of an answer
+--   made               the messages of demand 3 are what these calls give
+use mathlib.Core.Path.{_≡_, refl, sym, ap, ap₂, _∙_}
+use mathlib.Core.Bool.{Bool, true, false, not, _||_}
+use mathlib.Core.Logic.{⊎-elim}
+use mathlib.Core.List.{List, [], _∷_, _++_}
+use Prim.Native.Nat.{ℕ, suc, _+_, _*_, _/_, _%_, _<_, _≤_}
+use native.Mathlib.Nat.{mul-le-mul-left, mul-le-mul-right, div-add-mod, mod-lt}
+use native.Mathlib.Omega.{arith}
+use lib.ListN.{length}
+use borrow.Author.Tests.{le-ltb}
+use Rattle.algebra.specs.Lists.{AllBelow, allBelow}
+use Rattle.algebra.proofs.Orders.{le-or-lt}
+use Rattle.algebra.proofs.Tests.{alike}
+use Rattle.algebra.proofs.Lists.{below-test}
+use Rattle.algebra.proofs.Grids.{length-grid, below-grid}
+use Rattle.refusal.specs.Chain.{first, outside}
+use Rattle.field.specs.Modulus.{noModulus}
+use Rattle.refusal.specs.Limits.{anyOutside, sizesOutside, overBlock}
+use Rattle.refusal.proofs.Chains.{first-none, first-miss, answer-done}
+use Rattle.refusal.proofs.Limits.{Within}
+use Rattle.plan.specs.declared.Job.{Job}
+use Rattle.plan.specs.Planning.{prime, parameters, blockRows, blockInner, blockColumns, planOf}
+use Rattle.plan.proofs.Facts.{Fits, facts}
+use Rattle.plan.proofs.Then.{then-own}
+use Rattle.share.specs.declared.Matrix.{Matrix}
+use Rattle.share.specs.declared.Matrix.the-variants.{A, B}
+use Rattle.share.specs.declared.Side.{Side}
+use Rattle.share.specs.Sharing.{side, shareOf, hostShare, blockLength, matrixLength, maskLength, ownTests, shareTests, shareAfter}
+use Rattle.share.specs.Sharing.{lengthTest as Sharing·lengthTest}
+use Rattle.product.specs.Product.{productOf, lengthTest, productTests, productAfter}
+use Rattle.message.specs.declared.Header.{Header}
+use Rattle.message.specs.Format.{messageOf, elementCount, kindTest, hostTest, sizeTest, blockTest, fieldTests, elementTest, writeTests, written}
+use Rattle.message.proofs.Fields.{inside, writes}
+use Rattle.message.proofs.Answers.{written-done}
+use Rattle.promise.specs.Demand3.{Task, Accepted, Masks, Made, matrix, kindOf, headerFor, shareHeader, answerHeader, shareMessage, trueProduct}
+
+-- a number that its divisor divides: the quotient is not 0, and the two make it
+whole : (a b : ℕ) → 1 ≤ a → a % b ≡ 0 → (1 ≤ a / b) × (a ≡ b * (a / b))
+whole a b h e = (
+  ⊎-elim (λ (l : 1 ≤ a / b). l)
+      (λ (z : a / b < 1).
+      let none : a / b ≡ 0 = omega arith in
+      let no : ⊥ = omega (arith, div-add-mod a b, ap (λ (k : ℕ). b * k) none) in
+      absurd no)
+      (le-or-lt 1 (a / b)),
+  omega (arith, div-add-mod a b),
+)
+
+pub record Sizes (job : Job) : Type 0 where
+  pub t : job .t ≡ job .m * blockRows job
+  pub s : job .s ≡ job .p * blockInner job
+  pub r : job .r ≡ job .n * blockColumns job
+  pub rows : Within 16384 (blockRows job)
+  pub inner : Within 16384 (blockInner job)
+  pub columns : Within 16384 (blockColumns job)
+
+pub sizes : (job : Job) → Fits job → Sizes job
+unfolding blockRows blockInner blockColumns
+sizes job f =
+    let t = whole (job .t) (job .m) (f .ranged .t .low) (f .divides-t) in
+    let s = whole (job .s) (job .p) (f .ranged .s .low) (f .divides-s) in
+    let r = whole (job .r) (job .n) (f .ranged .r .low) (f .divides-r) in
+    let rows : blockRows job * 1 ≤ blockRows job * blockInner job = mul-le-mul-left (blockRows job) (s .0) in
+    let inner : 1 * blockInner job ≤ blockRows job * blockInner job = mul-le-mul-right (blockInner job) (t .0) in
+    let columns : 1 * blockColumns job ≤ blockRows job * blockColumns job = mul-le-mul-right (blockColumns job) (t .0) in
+    record {
+      t = t .1;
+      s = s .1;
+      r = r .1;
+      rows = record { low = t .0; high = omega (arith, f .block-a) };
+      inner = record { low = s .0; high = omega (arith, f .block-a) };
+      columns = record { low = r .0; high = omega (arith, f .block-c) };
+    }
+
+-- a number in its range
+in-range : {most n : ℕ} → Within most n → outside 1 most n ≡ false
+in-range {most} {n} w = inside 1 most n (w .low) (w .high)
+
+pub fields-pass : (h : Header) → Within 3 (h .kind) → noModulus (h .modulus) ≡ false → Within 64 (h .host) → Within 16384 (h .rows)
+    → Within 16384 (h .columns) → elementCount h ≤ 4096 → first (fieldTests h) ≡ 0
+unfolding fieldTests kindTest hostTest sizeTest blockTest
+fields-pass h kind known host rows columns count =
+    first-miss _ 16 _ (in-range kind)
+    ∙ first-miss _ 1 _ known
+    ∙ first-miss _ 12 _ (in-range host)
+    ∙ first-miss _ 2 _ (ap₂ _||_ (in-range rows) (in-range columns))
+    ∙ first-miss _ 6 _ (le-ltb 4096 (elementCount h) count)
+    ∙ first-none
+
+module _ (x : Task) (ok : Accepted x) (i : ℕ) (low : i < x .numbers .hosts) where
+  fits : Fits (x .numbers)
+  fits = facts (x .numbers) (x .points) (ok .planned) .fits
+
+  size : Sizes (x .numbers)
+  size = sizes (x .numbers) fits
+
+  q : ℕ
+  q = prime (x .numbers)
+
+  positive : 0 < q
+  unfolding q
+  positive = omega (arith, fits .known .is-prime .above-one)
+
+  host : Within 64 (suc i)
+  host = record { low = omega arith; high = omega (arith, fits .hosts-high) }
+
+  -- the sides' matrices are of exact length, with elements below q
+  exact : (m : Matrix) → length (matrix m x) ≡ matrixLength (side m (planOf (x .numbers)))
+  unfolding matrix matrixLength blockLength side planOf parameters
+  exact A =
+      let z = size in
+      ok .length-a ∙ ap₂ _*_ (z .t) (z .s) ∙ (let e : x .numbers .m * blockRows (x .numbers) * (x .numbers .p * blockInner (x .numbers)) ≡ x .numbers .m * x .numbers .p * (blockRows (x .numbers) * blockInner (x .numbers)) = omega arith in e)
+  exact B =
+      let z = size in
+      ok .length-b ∙ ap₂ _*_ (z .s) (z .r) ∙ (let e : x .numbers .p * blockInner (x .numbers) * (x .numbers .n * blockColumns (x .numbers)) ≡ x .numbers .p * x .numbers .n * (blockInner (x .numbers) * blockColumns (x .numbers)) = omega arith in e)
+
+  below : (m : Matrix) → AllBelow q (matrix m x)
+  unfolding matrix q
+  below A = ok .below-a
+  below B = ok .below-b
+
+  pub share-done : (m : Matrix) (ms out : List ℕ) → Masks m x ms → length out ≡ blockLength (side m (planOf (x .numbers)))
+      → first (shareTests m (x .numbers) (x .points) (suc i) (matrix m x) ms (length out)) ≡ 0
+  unfolding shareTests ownTests Sharing·lengthTest q
+  share-done m ms out masks room =
+      let s = side m (planOf (x .numbers)) in
+      then-own (x .numbers) (x .points) _ (ok .planned)
+      ∙ first-miss _ 12 _ (inside 1 (x .numbers .hosts) (suc i) (omega arith) (omega arith))
+      ∙ first-miss _ 13 _
+      (ap₂ _||_ (ap₂ _||_ (alike (length (matrix m x)) (matrixLength s) (exact m)) (alike (length ms) (maskLength s) (masks .exact)))
+      (alike (length out) (blockLength s) room))
+      ∙ first-miss _ 14 _ (ap not (below-test q (matrix m x) (below m)))
+      ∙ first-miss _ 15 _ (ap not (below-test q ms (masks .below)))
+      ∙ first-none
+
+  unfoldable pub share : (m : Matrix) → List ℕ → List ℕ
+  share m ms = hostShare m (x .numbers) (x .points) (suc i) (matrix m x) ms
+
+  pub share-length : (m : Matrix) (ms : List ℕ) → length (hostShare m (x .numbers) (x .points) (suc i) (matrix m x) ms) ≡ blockLength (side m (planOf (x .numbers)))
+  unfolding hostShare shareOf blockLength
+  share-length m ms = length-grid _ _ _
+
+  pub share-below : (m : Matrix) (ms : List ℕ) → AllBelow (prime (x .numbers)) (hostShare m (x .numbers) (x .points) (suc i) (matrix m x) ms)
+  unfolding hostShare shareOf q
+  share-below m ms = below-grid _ _ _ _ (λ k l. mod-lt _ positive)
+
+  -- what sharing leaves
+  shared : (m : Matrix) (ms out : List ℕ) → Masks m x ms → length out ≡ blockLength (side m (planOf (x .numbers)))
+      → shareAfter m (x .numbers) (x .points) (suc i) (matrix m x) ms out ≡ share m ms
+  unfolding shareAfter share
+  shared m ms out masks room = answer-done (share m ms) (λ r. out) _ (share-done m ms out masks room)
+
+  -- a block of a side is not empty, and not over 4096
+  side-rows : (m : Matrix) → Within 16384 (side m (planOf (x .numbers)) .rows)
+  unfolding side planOf
+  side-rows A = size .rows
+  side-rows B = size .inner
+
+  side-columns : (m : Matrix) → Within 16384 (side m (planOf (x .numbers)) .columns)
+  unfolding side planOf
+  side-columns A = size .inner
+  side-columns B = size .columns
+
+  side-block : (m : Matrix) → blockLength (side m (planOf (x .numbers))) ≤ 4096
+  unfolding side planOf blockLength
+  side-block A = fits .block-a
+  side-block B = fits .block-b
+
+  kind : (m : Matrix) → Within 3 (kindOf m)
+  unfolding kindOf
+  kind A = record { low = omega arith; high = omega arith }
+  kind B = record { low = omega arith; high = omega arith }
+
+  pub share-written : (m : Matrix) (ms : List ℕ) (room : ℕ) → room ≡ 16 + 4 * elementCount (shareHeader m x (suc i))
+      → first (writeTests (shareHeader m x (suc i)) (hostShare m (x .numbers) (x .points) (suc i) (matrix m x) ms) room) ≡ 0
+  unfolding shareHeader headerFor elementCount blockLength elementTest prime
+  share-written m ms room e =
+      writes (shareHeader m x (suc i)) _ room (record {
+        fields = fields-pass (shareHeader m x (suc i)) (kind m) (fits .known .is-number) host (side-rows m) (side-columns m) (side-block m);
+        count = share-length m ms;
+        room = e;
+        below = ap not (below-test _ _ (share-below m ms));
+      })
+
+  module _ (ma mb : List ℕ) where
+    unfoldable pub answer : List ℕ
+    answer = productOf (prime (x .numbers)) (blockRows (x .numbers)) (blockInner (x .numbers)) (blockColumns (x .numbers)) (share A ma) (share B mb)
+
+    answer-length : length answer ≡ blockRows (x .numbers) * blockColumns (x .numbers)
+    unfolding answer productOf
+    answer-length = length-grid _ _ _
+
+    answer-below : AllBelow (prime (x .numbers)) answer
+    unfolding answer productOf q
+    answer-below = below-grid _ _ _ _ (λ k l. mod-lt _ positive)
+
+    product-done : (out : List ℕ) → length out ≡ blockRows (x .numbers) * blockColumns (x .numbers)
+        → first (productTests (x .numbers .modulus) (blockRows (x .numbers)) (blockInner (x .numbers)) (blockColumns (x .numbers)) (share A ma) (share B mb) (length out)) ≡ 0
+    unfolding productTests sizesOutside anyOutside overBlock lengthTest share blockLength side planOf prime
+    product-done out room =
+        let z = size in
+        first-miss _ 1 _ (fits .known .is-number)
+        ∙ first-miss _ 2 _ (ap₂ _||_ (ap₂ _||_ (in-range (z .rows)) (in-range (z .inner))) (in-range (z .columns)))
+        ∙ first-miss _ 6 _ (ap₂ _||_ (ap₂ _||_ (le-ltb 4096 _ (fits .block-a)) (le-ltb 4096 _ (fits .block-b))) (le-ltb 4096 _ (fits .block-c)))
+        ∙ first-miss _ 13 _ (ap₂ _||_ (ap₂ _||_ (alike _ _ (share-length A ma)) (alike _ _ (share-length B mb))) (alike (length out) _ room))
+        ∙ first-miss _ 14 _ (ap₂ _||_ (ap not (below-test _ _ (share-below A ma))) (ap not (below-test _ _ (share-below B mb))))
+        ∙ first-none
+
+    multiplied : (out : List ℕ) → length out ≡ blockRows (x .numbers) * blockColumns (x .numbers)
+        → productAfter (x .numbers .modulus) (blockRows (x .numbers)) (blockInner (x .numbers)) (blockColumns (x .numbers)) (share A ma) (share B mb) out ≡ answer
+    unfolding productAfter answer prime
+    multiplied out room = answer-done answer (λ r. out) _ (product-done out room)
+
+    pub answer-written : (room : ℕ) → room ≡ 16 + 4 * elementCount (answerHeader x (suc i))
+        → first (writeTests (answerHeader x (suc i)) answer room) ≡ 0
+    unfolding answerHeader headerFor elementCount elementTest prime
+    answer-written room e =
+        writes (answerHeader x (suc i)) _ room (record {
+          fields = fields-pass (answerHeader x (suc i)) (record { low = omega arith; high = omega arith }) (fits .known .is-number) host (size .rows) (size .columns) (fits .block-c);
+          count = answer-length;
+          room = e;
+          below = ap not (below-test _ _ answer-below);
+        })
+
+    pub made : Masks A x ma → Masks B x mb → Made x (suc i) ma mb
+    unfolding shareMessage trueProduct answer share matrix
+    made masks-a masks-b =
+        record {
+          share = λ m ms out message masks room whole.
+              let is = shared m ms out masks room in
+              ap (λ (xs : List ℕ). written (shareHeader m x (suc i)) xs message) is
+              ∙ written-done (shareHeader m x (suc i)) (share m ms) message (share-written m ms (length message) whole);
+          product = λ out-a out-b out message room-a room-b room whole.
+              ap (λ (xs : List ℕ). written (answerHeader x (suc i)) xs message)
+              (ap₂ (λ (xs ys : List ℕ). productAfter (x .numbers .modulus) (blockRows (x .numbers)) (blockInner (x .numbers)) (blockColumns (x .numbers)) xs ys out) (shared A ma out-a masks-a room-a) (shared B mb out-b masks-b room-b)
+              ∙ multiplied out room)
+              ∙ written-done (answerHeader x (suc i)) answer message (answer-written (length message) whole);
+        }
