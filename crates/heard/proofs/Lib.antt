@@ -1,1 +1,3 @@
 -- Laws of the hosts heard.
+pub mod Bits
+pub mod Lowest
