@@ -1,2 +1,3 @@
 -- Proofs of the promises.
 pub mod Starred
+pub mod Solvable
