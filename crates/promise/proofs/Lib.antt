@@ -1,3 +1,4 @@
 -- Proofs of the promises.
 pub mod Starred
 pub mod Solvable
+pub mod Matching

@@ -52,7 +52,7 @@ module _ {q : ℕ} (prime : Prime q) where
       omega arith
 
   module _ (xs : List ℕ) (below : AllBelow q xs) (pos : (k : ℕ) → k < length xs → 0 < getD xs k 0) (distinct : Distinct xs)
-      (count : ℕ) (short : length xs ≤ count) (base : ℕ) where
+      (count : ℕ) (short : length xs ≤ count) (exponent : ℕ → ℕ) (base : ℕ) (follow : (y : ℕ) → exponent y ≡ base + y) where
     -- what the polynomial of the masks has to be at each point, once the base is taken out
     quotients : (ℕ → ℕ) → List ℕ
     quotients v = tab (λ k. v k * inverse q (getD xs k 0 ^ base)) (length xs)
@@ -78,13 +78,13 @@ module _ {q : ℕ} (prime : Prime q) where
         (≈-of-eq (getD-tab (λ k. v k * inverse q (getD xs k 0 ^ base)) (length xs) k 0 h))
 
     -- the base taken out of the masks' sum
-    base-out : (ds : List ℕ) (x : ℕ) → sum count (λ y. getD ds y 0 * x ^ (base + y)) ≡ x ^ base * sum count (λ y. getD ds y 0 * x ^ y)
+    base-out : (ds : List ℕ) (x : ℕ) → sum count (λ y. getD ds y 0 * x ^ exponent y) ≡ x ^ base * sum count (λ y. getD ds y 0 * x ^ y)
     base-out ds x =
-        sum-cong count (λ y. getD ds y 0 * x ^ (base + y)) (λ y. x ^ base * (getD ds y 0 * x ^ y))
-        (λ y h. omega (arith, ap (λ (k : ℕ). getD ds y 0 * k) (pow-add x base y)))
+        sum-cong count (λ y. getD ds y 0 * x ^ exponent y) (λ y. x ^ base * (getD ds y 0 * x ^ y))
+        (λ y h. omega (arith, ap (λ (k : ℕ). getD ds y 0 * k) (ap (λ (k : ℕ). x ^ k) (follow y) ∙ pow-add x base y)))
         ∙ sum-mul count (x ^ base) (λ y. getD ds y 0 * x ^ y)
 
-    solution-gives : (v : ℕ → ℕ) (k : ℕ) → k < length xs → ⟨ q ⟩ sum count (λ y. getD (solution v) y 0 * getD xs k 0 ^ (base + y)) ≈ v k
+    solution-gives : (v : ℕ → ℕ) (k : ℕ) → k < length xs → ⟨ q ⟩ sum count (λ y. getD (solution v) y 0 * getD xs k 0 ^ exponent y) ≈ v k
     solution-gives v k h =
         let x : ℕ = getD xs k 0 in
         let unit : ⟨ q ⟩ x ^ base * inverse q (x ^ base) ≈ 1 = inverse-right prime (x ^ base) (power-nonzero x base (pos k h) (below k h)) in
@@ -92,5 +92,5 @@ module _ {q : ℕ} (prime : Prime q) where
         ≈-trans (≈-of-eq (base-out (solution v) x))
         (≈-trans (≈-scale (x ^ base) (≈-trans (ev-sum (solution v) count x few) (solution-at v k h))) (≈-by (≈-scale (v k) unit) (omega arith)))
 
-    pub solvable-powers : Solvable q (length xs) count (λ k y. getD xs k 0 ^ (base + y))
+    pub solvable-powers : Solvable q (length xs) count (λ k y. getD xs k 0 ^ exponent y)
     solvable-powers = record { masks = λ v y. getD (solution v) y 0; below = solution-below; gives = solution-gives }
