@@ -41,7 +41,7 @@ ev-sum {q} cs n x short = ≈-trans (≈-of-eq (sym (ev-tab (λ y. getD cs y 0) 
         (le-or-lt n e)
 
 module _ {q : ℕ} (prime : Prime q) where
-  -- a power of a number that is not 0
+  -- a power of a number that is not 0 is not 0
   power-nonzero : (x e : ℕ) → 0 < x → x < q → ⟨ q ⟩ x ^ e ≈ 0 → ⊥
   power-nonzero x zero pos below h =
       let one : _≡_ {A = ℕ} 1 0 = sym (pow-zero x) ∙ ≈-exact (omega (arith, pow-zero x, prime .above-one)) (omega arith) h in
