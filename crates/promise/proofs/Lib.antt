@@ -1,5 +1,9 @@
 -- Proofs of the promises.
 pub mod Starred
+pub mod Places
+pub mod Solvable
+pub mod Matching
+pub mod Hidden
 pub mod Fits
 pub mod Blocks
 pub mod Trace

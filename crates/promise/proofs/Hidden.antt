@@ -1,0 +1,161 @@
+-- The privacy half of demand 3: a group of at most X_A hosts gets byte-equal A messages, one of at most X_B byte-equal B messages.
+--
+--   same-numbers      two jobs with the same public numbers have the same numbers
+--   masks-follow      the exponents of a matrix's masks follow one another
+--   largest-count     there are as many masks as hosts in the largest group
+--   hidden            the masks of the two jobs match one to one
+use mathlib.Core.Path.{_≡_, refl, sym, ap, ap₂, _∙_, subst}
+use mathlib.Core.Bool.{Bool, true}
+use mathlib.Core.List.{List, []}
+use Prim.Native.Nat.{ℕ, suc, _+_, _-_, _^_, _<_, _≤_}
+use native.Mathlib.Omega.{arith}
+use lib.ListN.{length, getD, length-map}
+use Rattle.algebra.specs.Lists.{AllBelow}
+use Rattle.algebra.specs.Sets.{members, size}
+use Rattle.algebra.proofs.Sets.{members-has, members-below, members-distinct}
+use Rattle.layout.specs.Exponents.{Exponents, exponents, term}
+use Rattle.layout.specs.Sound.{Sound}
+use Rattle.layout.proofs.Soundness.{sound}
+use Rattle.plan.specs.declared.Job.{Job}
+use Rattle.plan.specs.Planning.{prime, parameters, layoutOf, planOf}
+use Rattle.plan.proofs.Facts.{Fits, Facts, facts}
+use Rattle.share.specs.declared.Matrix.{Matrix}
+use Rattle.share.specs.declared.Matrix.the-variants.{A, B}
+use Rattle.share.specs.Sharing.{side, shareOf, point, hostShare}
+use Rattle.message.specs.Format.{messageOf}
+use Rattle.promise.specs.Demand3.{Task, Accepted, SamePublic, Masks, Hidden, publicNumbers, largest, matrix, headerFor, shareHeader, shareMessage}
+use Rattle.promise.proofs.Places.{pointsAt, getD-points, points-each, points-apart}
+use Rattle.promise.proofs.Solvable.{Solvable, solvable-powers}
+use Rattle.promise.proofs.Matching.{MasksFor, Matched, matched}
+
+same-numbers : (x y : Task) → SamePublic x y → x .numbers ≡ y .numbers
+unfolding publicNumbers
+same-numbers x y same =
+    let all = same .numbers in
+    let at : (k : ℕ) → getD (publicNumbers x) k 0 ≡ getD (publicNumbers y) k 0 = λ k. ap (λ (l : List ℕ). getD l k 0) all in
+    λ i. record {
+      modulus = at 0 i;
+      t = at 1 i;
+      s = at 2 i;
+      r = at 3 i;
+      m = at 4 i;
+      p = at 5 i;
+      n = at 6 i;
+      xa = at 7 i;
+      xb = at 8 i;
+      hosts = at 9 i;
+      number = at 10 i;
+    }
+
+-- the exponents of the job's layout
+layoutData : Job → Exponents
+layoutData job = exponents (layoutOf job) (parameters job)
+
+-- both layouts are sound for the job's cuts
+job-sound : (job : Job) → Fits job → Sound (parameters job) (layoutData job)
+unfolding layoutData parameters
+job-sound job fits =
+    sound (layoutOf job) (parameters job) (record { m = fits .ranged .m .low; p = fits .ranged .p .low; n = fits .ranged .n .low })
+
+masks-follow : (m : Matrix) (job : Job) → Fits job
+    → (base : ℕ) × ((y : ℕ) → term (layoutData job) (side m (planOf job) .masks) 0 y ≡ base + y)
+unfolding side term
+masks-follow A job fits = let s = job-sound job fits in (s .firstA, s .masksA)
+masks-follow B job fits = let s = job-sound job fits in (s .firstB, s .masksB)
+
+largest-count : (m : Matrix) (x : Task) → largest m x ≡ side m (planOf (x .numbers)) .count
+unfolding largest side planOf parameters
+largest-count A x = refl
+largest-count B x = refl
+
+-- ---- one job, two matrices
+
+module _ (points : List ℕ) (g : ℕ → Bool) (n : ℕ) where
+  -- the points of a group of the hosts at the places below n
+  groupPoints : List ℕ
+  groupPoints = pointsAt points (members g n)
+
+  length-group : length groupPoints ≡ size g n
+  unfolding groupPoints size
+  length-group = length-map (members g n) (λ h. getD points h 0)
+
+  -- a host of the group has its point among them
+  group-has : (i : ℕ) → i < n → g i ≡ true → (k : ℕ) × (k < length groupPoints) × (getD groupPoints k 0 ≡ point points (suc i))
+  unfolding groupPoints size point
+  group-has i h t =
+      let at = members-has g n i h t in
+      let own : getD (members g n) (at .0) 0 ≡ suc i - 1 = omega (arith, at .2) in
+      (at .0, omega (arith, at .1, length-group), getD-points points (members g n) (at .0) (at .1) ∙ ap (λ (k : ℕ). getD points k 0) own)
+
+-- what mask y of a matrix is multiplied by at point k of a group
+maskWeight : Matrix → Job → List ℕ → ℕ → ℕ → ℕ
+maskWeight m job group k y = getD group k 0 ^ term (layoutData job) (side m (planOf job) .masks) 0 y
+
+module _ (m : Matrix) (job : Job) (points : List ℕ) (known : Facts job points) (g : ℕ → Bool)
+    (small : size g (job .hosts) ≤ side m (planOf job) .count) where
+  group-solvable : Solvable (prime job) (length (groupPoints points g (job .hosts))) (side m (planOf job) .count)
+      (maskWeight m job (groupPoints points g (job .hosts)))
+  unfolding groupPoints maskWeight
+  group-solvable =
+      let places = members g (job .hosts) in
+      let below : AllBelow (length points) places = λ k h. omega (arith, known .points-length, members-below g (job .hosts) k h) in
+      let follow = masks-follow m job (known .fits) in
+      solvable-powers (known .fits .known .is-prime) (pointsAt points places)
+      (points-each points places below (λ x. x < prime job) (known .points-below))
+      (points-each points places below (λ x. 0 < x) (known .points-pos))
+      (points-apart points places below (known .points-distinct) (members-distinct g (job .hosts)))
+      (side m (planOf job) .count) (omega (arith, length-group points g (job .hosts)))
+      (term (layoutData job) (side m (planOf job) .masks) 0) (follow .0) (follow .1)
+
+  module _ (xs ys : List ℕ) where
+    match : Matched (prime job) (layoutData job) (side m (planOf job)) (groupPoints points g (job .hosts)) xs ys
+    unfolding maskWeight
+    match =
+        matched (layoutData job) (side m (planOf job)) (groupPoints points g (job .hosts)) group-solvable
+        (omega (arith, known .fits .known .is-prime .above-one)) xs ys
+
+    same-host : (ms : List ℕ) (i : ℕ) → i < job .hosts → g i ≡ true
+        → hostShare m job points (suc i) xs ms ≡ hostShare m job points (suc i) ys (match .partner ms)
+    unfolding hostShare layoutData
+    same-host ms i h t =
+        let at = group-has points g (job .hosts) i h t in
+        let share : ℕ → List ℕ → List ℕ → List ℕ = shareOf (prime job) (layoutData job) (side m (planOf job)) in
+        subst (λ (x : ℕ). share x xs ms ≡ share x ys (match .partner ms)) (at .2) (match .same ms (at .0) (at .1))
+
+-- ---- two jobs
+
+-- a header depends on the numbers alone
+same-header : (m : Matrix) (x y : Task) (i : ℕ) → x .numbers ≡ y .numbers → shareHeader m x i ≡ shareHeader m y i
+unfolding shareHeader headerFor
+same-header m x y i e = ap (λ (job : Job). shareHeader m (record { numbers = job; points = []; a = []; b = [] }) i) e
+
+-- masks for a matrix are masks of its side
+masks-told : (m : Matrix) (x : Task) (job : Job) (ms : List ℕ) → x .numbers ≡ job → Masks m x ms → MasksFor (prime job) (side m (planOf job)) ms
+masks-told m x job ms e h = subst (λ (job : Job). MasksFor (prime job) (side m (planOf job)) ms) e (h .exact, h .below)
+
+masks-made : (m : Matrix) (x : Task) (job : Job) (ms : List ℕ) → job ≡ x .numbers → MasksFor (prime job) (side m (planOf job)) ms → Masks m x ms
+masks-made m x job ms e h =
+    let own = subst (λ (job : Job). MasksFor (prime job) (side m (planOf job)) ms) e h in
+    record { exact = own .0; below = own .1 }
+
+pub hidden : (m : Matrix) (x y : Task) → Accepted x → Accepted y → SamePublic x y → (g : ℕ → Bool)
+    → size g (x .numbers .hosts) ≤ largest m x → Hidden m x y g
+unfolding shareMessage
+hidden m x y ax ay same g small =
+    let job : Job = x .numbers in
+    let jobs = same-numbers x y same in
+    let known = facts job (x .points) (ax .planned) in
+    let few : size g (job .hosts) ≤ side m (planOf job) .count = omega (arith, largest-count m x) in
+    let pair = match m job (x .points) known g few (matrix m x) (matrix m y) in
+    record {
+      partner = pair .partner;
+      back = pair .back;
+      partner-masks = λ ms h. masks-made m y job (pair .partner ms) jobs (pair .partner-masks ms);
+      back-masks = λ ms h. masks-made m x job (pair .back ms) refl (pair .back-masks ms);
+      back-partner = λ ms h. pair .back-partner ms (masks-told m x job ms refl h);
+      partner-back = λ ms h. pair .partner-back ms (masks-told m y job ms (sym jobs) h);
+      same-bytes = λ ms h i l t.
+          ap₂ messageOf (same-header m x y (suc i) jobs)
+          (same-host m job (x .points) known g few (matrix m x) (matrix m y) ms i l t
+          ∙ ap₂ (λ (job : Job) (points : List ℕ). hostShare m job points (suc i) (matrix m y) (pair .partner ms)) jobs (same .points));
+    }
