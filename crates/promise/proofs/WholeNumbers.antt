@@ -1,0 +1,54 @@
+-- The product modulo q as whole numbers (01, "Signed reading").
+--
+--   whole-numbers    AB modulo q tells the exact entries of AB
+use mathlib.Core.Path.{_≡_, sym, ap, _∙_, subst}
+use mathlib.Core.List.{List}
+use Prim.Native.Nat.{ℕ, _*_, _%_, _<_, _≤_}
+use native.Mathlib.Nat.{mul-le-mul, mul-le-mul-right}
+use native.Mathlib.Omega.{arith}
+use lib.IntN.{pos}
+use Rattle.algebra.specs.Lists.{entry, AllBelow}
+use Rattle.algebra.specs.Sums.{sum}
+use Rattle.algebra.proofs.Lists.{below-anywhere}
+use Rattle.algebra.proofs.Grids.{entry-grid}
+use Rattle.algebra.proofs.Sums.{sum-bound}
+use Rattle.plan.specs.Planning.{prime}
+use Rattle.plan.proofs.Facts.{Fits, facts}
+use Rattle.product.specs.Product.{productEntry, productOf}
+use Rattle.signed.specs.Signed.{Exact}
+use Rattle.signed.proofs.Exact.{exact}
+use Rattle.promise.specs.Demand3.{Task, Accepted}
+use Rattle.promise.specs.WholeNumbers.{exactEntry, WholeNumbers}
+
+module _ (x : Task) (ok : Accepted x) where
+  fits : Fits (x .numbers)
+  fits = facts (x .numbers) (x .points) (ok .planned) .fits
+
+  holds : Exact (prime (x .numbers))
+  holds = exact (prime (x .numbers)) (fits .known .is-prime .above-one) (fits .known .odd)
+
+  product : List ℕ
+  product = productOf (prime (x .numbers)) (x .numbers .t) (x .numbers .s) (x .numbers .r) (x .a) (x .b)
+
+  entry-is : (u v : ℕ) → u < x .numbers .t → v < x .numbers .r
+      → entry (x .numbers .r) product u v ≡ productEntry (x .numbers .s) (x .numbers .r) (x .a) (x .b) u v % prime (x .numbers)
+  unfolding product productOf
+  entry-is u v a b = entry-grid _ (x .numbers .t) (x .numbers .r) u v a b
+
+  -- an entry of counts 0..2
+  small : prime (x .numbers) ≡ 65537 → AllBelow 3 (x .a) → AllBelow 3 (x .b) → (u v : ℕ)
+      → productEntry (x .numbers .s) (x .numbers .r) (x .a) (x .b) u v < prime (x .numbers)
+  unfolding productEntry entry
+  small e ha hb u v =
+      let bound = sum-bound (x .numbers .s) 4 _ (λ l h. mul-le-mul (let k = below-anywhere 3 (x .a) (omega arith) ha (u * x .numbers .s + l) in omega arith) (let k = below-anywhere 3 (x .b) (omega arith) hb (l * x .numbers .r + v) in omega arith)) in
+      omega (arith, e, bound, fits .ranged .s .high)
+
+  pub whole-numbers : WholeNumbers x (productOf (prime (x .numbers)) (x .numbers .t) (x .numbers .s) (x .numbers .r) (x .a) (x .b))
+  unfolding product exactEntry productEntry
+  whole-numbers = record {
+    reads = λ how range u v a b. ap (λ (z : ℕ). signed (prime (x .numbers)) z) (entry-is u v a b) ∙ holds .reads how (x .numbers .s) _ _ (range u v a b);
+    stands = λ how range u v a b.
+        let k = range u v a b in
+        ap pos (entry-is u v a b ∙ holds .stands how (x .numbers .s) _ _ (k .0) (k .1) (k .2)) ∙ sym (k .2);
+    counts = λ e ha hb u v a b. entry-is u v a b ∙ mod-eq-of-lt (small e ha hb u v);
+  }
