@@ -11,3 +11,4 @@ pub mod Inverses
 pub mod Sums
 pub mod Polynomials
 pub mod Interpolation
+pub mod Sets
