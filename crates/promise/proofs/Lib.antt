@@ -1,2 +1,5 @@
 -- Proofs of the promises.
 pub mod Starred
+pub mod ExactSums
+pub mod ExactPlaces
+pub mod ExactAnswers
