@@ -4,23 +4,21 @@
 --   coefficients  of the polynomial of the answer's element at i, v
 --   answer-is     its value at x is the element, modulo q
 --   place-is      at the place of C(k,j) it has the element of A times B
-use mathlib.Core.Path.{_≡_, refl, sym, ap, _∙_}
+use mathlib.Core.Path.{sym, _∙_}
 use mathlib.Core.List.{List}
 use Prim.Native.Nat.{ℕ, _+_, _*_, _%_, _<_}
-use native.Mathlib.Omega.{arith}
 use lib.ListN.{getD}
 use Rattle.algebra.specs.Lists.{tab, entry}
 use Rattle.algebra.specs.Sums.{sum}
 use Rattle.algebra.specs.Modular.{⟨_⟩_≈_}
 use Rattle.algebra.specs.Polynomials.{ev}
 use Rattle.algebra.proofs.Grids.{getD-grid, entry-grid}
-use Rattle.algebra.proofs.Modular.{≈-sym, ≈-trans, ≈-of-eq, ≈-mod, ≈-mul}
-use Rattle.algebra.proofs.Sums.{sum-≈, sum-cong, sum-swap, sum-split}
+use Rattle.algebra.proofs.Modular.{≈-trans, ≈-of-eq, ≈-mod, ≈-mul}
+use Rattle.algebra.proofs.Sums.{sum-≈, sum-swap, sum-split}
 use Rattle.algebra.proofs.Polynomials.{ev-tab}
 use Rattle.layout.specs.Exponents.{Exponents, term}
 use Rattle.layout.specs.Sound.{Sound}
 use Rattle.plan.specs.declared.Plan.{Plan}
-use Rattle.share.specs.declared.Matrix.{Matrix}
 use Rattle.share.specs.declared.Matrix.the-variants.{A, B}
 use Rattle.share.specs.Sharing.{side, blockEntry, maskEntry, shareEntry, shareOf}
 use Rattle.product.specs.Product.{productEntry, productOf}
@@ -31,7 +29,7 @@ unfoldable pub answerOf : ℕ → Exponents → Plan → ℕ → List ℕ → Li
 answerOf q e plan x a ma b mb =
     productOf q (plan .rows) (plan .inner) (plan .columns) (shareOf q e (side A plan) x a ma) (shareOf q e (side B plan) x b mb)
 
-module _ (q : ℕ) (e : Exponents) (plan : Plan) (a ma b mb : List ℕ) (i v : ℕ) where
+module _ (e : Exponents) (plan : Plan) (a ma b mb : List ℕ) (i v : ℕ) where
   -- the polynomial of one product in the sum over u
   product : ℕ → ℕ → ℕ
   product u =
@@ -41,7 +39,7 @@ module _ (q : ℕ) (e : Exponents) (plan : Plan) (a ma b mb : List ℕ) (i v : �
   pub coefficients : ℕ → ℕ
   coefficients d = sum (plan .inner) (λ u. product u d)
 
-  module _ (s : Sound (plan .parameters) e) where
+  module _ {q : ℕ} (s : Sound (plan .parameters) e) where
     share-expands : (x u : ℕ)
         → Expands q (e .needed) x (shareEntry e (side A plan) x a ma i u * shareEntry e (side B plan) x b mb u v) (product u)
     unfolding product shareEntry side term valueA valueB whole

@@ -3,3 +3,5 @@ pub mod Starred
 pub mod ExactSums
 pub mod ExactPlaces
 pub mod ExactAnswers
+pub mod ExactHosts
+pub mod Exact
