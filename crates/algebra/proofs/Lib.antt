@@ -4,6 +4,7 @@ pub mod Tests
 pub mod Lists
 pub mod Fronts
 pub mod Grids
+pub mod Stacks
 pub mod Modular
 pub mod Primes
 pub mod Inverses

@@ -2,14 +2,16 @@
 --
 --   sum-cong sum-≈         equal, or congruent, terms
 --   sum-zero               terms that are all 0
+--   sum-none               terms that are all 0 modulo q
 --   sum-bound              n terms that are each at most b
 --   sum-add sum-mul        the sum of sums; a factor taken out
 --   sum-single             only the term at k counts, modulo q
 --   sum-swap               the order of two sums
+--   sum-more sum-split     a sum in two parts, and in n parts of m terms
 use mathlib.Core.Path.{_≡_, refl, sym, ap, ap₂, _∙_}
 use mathlib.Core.Logic.{⊎-elim}
 use Prim.Native.Nat.{ℕ, zero, suc, _+_, _*_, _<_, _≤_}
-use native.Mathlib.Nat.{not-suc-le-zero, mul-zero, mul-add, lt-suc-self}
+use native.Mathlib.Nat.{not-suc-le-zero, mul-zero, mul-add, add-zero, add-suc, lt-suc-self}
 use native.Mathlib.Omega.{arith}
 use Rattle.algebra.specs.Sums.{sum}
 use Rattle.algebra.specs.Modular.{⟨_⟩_≈_}
@@ -51,8 +53,19 @@ unfolding sum
 sum-swap zero m f = sym (sum-zero m)
 sum-swap (suc n) m f = ap (λ (x : ℕ). x + sum m (f n)) (sum-swap n m f) ∙ sym (sum-add m (λ j. sum n (λ i. f i j)) (f n))
 
--- no term below n counts
-sum-none : {q : ℕ} (n : ℕ) (f : ℕ → ℕ) → ((i : ℕ) → i < n → ⟨ q ⟩ f i ≈ 0) → ⟨ q ⟩ sum n f ≈ 0
+pub sum-more : (a b : ℕ) (f : ℕ → ℕ) → sum (a + b) f ≡ sum a f + sum b (λ i. f (a + i))
+unfolding sum
+sum-more a zero f = rw add-zero (sym (add-zero (sum a f)))
+sum-more a (suc b) f = rw add-suc (omega (arith, sum-more a b f))
+
+pub sum-split : (n m : ℕ) (f : ℕ → ℕ) → sum (n * m) f ≡ sum n (λ i. sum m (λ j. f (i * m + j)))
+unfolding sum
+sum-split zero m f = let none : 0 * m ≡ 0 = omega arith in ap (λ (k : ℕ). sum k f) none
+sum-split (suc n) m f =
+    let next : suc n * m ≡ n * m + m = omega arith in
+    ap (λ (k : ℕ). sum k f) next ∙ sum-more (n * m) m f ∙ ap (λ (k : ℕ). k + sum m (λ j. f (n * m + j))) (sum-split n m f)
+
+pub sum-none : {q : ℕ} (n : ℕ) (f : ℕ → ℕ) → ((i : ℕ) → i < n → ⟨ q ⟩ f i ≈ 0) → ⟨ q ⟩ sum n f ≈ 0
 sum-none n f h = ≈-trans (sum-≈ n f (λ i. 0) h) (≈-of-eq (sum-zero n))
 
 pub sum-single : {q : ℕ} (n k : ℕ) (f : ℕ → ℕ) → k < n → ((i : ℕ) → i < n → (i ≡ k → ⊥) → ⟨ q ⟩ f i ≈ 0) → ⟨ q ⟩ sum n f ≈ f k

@@ -4,8 +4,15 @@ pub mod Places
 pub mod Solvable
 pub mod Matching
 pub mod Hidden
+pub mod ExactSums
+pub mod ExactPlaces
+pub mod ExactAnswers
+pub mod ExactHosts
+pub mod Exact
 pub mod Fits
 pub mod Blocks
 pub mod Trace
 pub mod Made
 pub mod Yet
+pub mod Demand3
+pub mod WholeNumbers

@@ -1,0 +1,161 @@
+-- Exactness: where the answers of enough hosts stand in the store, the decoded table is A times B.
+--
+--   answerBlock x h ma mb   the elements of the true product of the host at place h
+--   blocks-grid             a table that is made block by block is a matrix
+--   exact                   exactness, for a job's numbers, points and matrices, whatever the masks
+use mathlib.Core.Path.{_≡_, sym, ap, ap₂, _∙_}
+use mathlib.Core.Bool.{true}
+use mathlib.Core.List.{List, map}
+use Prim.Native.Nat.{ℕ, suc, _+_, _-_, _*_, _/_, _%_, _<_, _≤_}
+use native.Mathlib.Nat.{div-add-mod}
+use native.Mathlib.Omega.{arith}
+use lib.ListN.{length, getD, drop, length-map}
+use lib.Seq.{getD-take, getD-drop}
+use Rattle.algebra.specs.Lists.{tab, stack, grid, entry}
+use Rattle.algebra.specs.Sets.{size}
+use Rattle.algebra.specs.Modular.{⟨_⟩_≈_}
+use Rattle.algebra.specs.Polynomials.{ev, coefficient}
+use Rattle.algebra.proofs.Orders.{row-end}
+use Rattle.algebra.proofs.Lists.{length-tab, getD-tab}
+use Rattle.algebra.proofs.Grids.{grid-cong}
+use Rattle.algebra.proofs.Stacks.{stack-cong, stack-tab, grid-tab, stack-grid}
+use Rattle.algebra.proofs.Modular.{≈-trans, ≈-of-eq}
+use Rattle.algebra.proofs.Interpolation.{recover}
+use Rattle.layout.specs.Exponents.{Exponents, exponents}
+use Rattle.layout.specs.Sound.{Cut, Sound}
+use Rattle.layout.proofs.Soundness.{sound}
+use Rattle.plan.specs.declared.Job.{Job}
+use Rattle.plan.specs.Planning.{prime, parameters, layoutOf, neededOf, blockRows, blockInner, blockColumns, planOf}
+use Rattle.plan.proofs.Facts.{Facts, facts}
+use Rattle.share.specs.declared.Matrix.the-variants.{A, B}
+use Rattle.share.specs.Sharing.{point, hostShare}
+use Rattle.product.specs.Product.{productEntry, productOf}
+use Rattle.heard.specs.Heard.{isHeard}
+use Rattle.arrival.specs.Arriving.{answerLength, blockAt}
+use Rattle.decode.specs.Decoding.{answerEntry, chosen, tableEntry, blocks, tableOf}
+use Rattle.promise.specs.Demand3.{Task, Accepted}
+use Rattle.promise.proofs.ExactHosts.{getD-map, Chosen, chosen-hosts}
+use Rattle.promise.proofs.ExactAnswers.{answerOf, coefficients, answer-is, place-is}
+
+-- ---- blocks as one matrix
+
+pub blocks-grid : (f : ℕ → ℕ → ℕ → ℕ → ℕ) (h : ℕ → ℕ → ℕ) (m rows n columns : ℕ)
+    → ((k j i v : ℕ) → k < m → j < n → i < rows → v < columns → f k j i v ≡ h (k * rows + i) (j * columns + v))
+    → blocks f m rows n columns ≡ grid h (m * rows) (n * columns)
+unfolding blocks
+blocks-grid f h m rows n columns e =
+    stack-cong (λ k. stack (λ i. grid (λ j v. f k j i v) n columns) rows) (λ k. grid (λ i. h (k * rows + i)) rows (n * columns)) m
+    (λ k hk.
+    stack-cong (λ i. grid (λ j v. f k j i v) n columns) (λ i. tab (h (k * rows + i)) (n * columns)) rows
+    (λ i hi.
+    grid-cong (λ j v. f k j i v) (λ j v. h (k * rows + i) (j * columns + v)) n columns (λ j v hj hv. e k j i v hk hj hi hv)
+    ∙ grid-tab (h (k * rows + i)) n columns)
+    ∙ stack-tab (λ i. h (k * rows + i)) rows (n * columns))
+    ∙ stack-grid h m rows (n * columns)
+
+-- ---- the table
+
+-- an element of the answer at place h, in the store and in its block
+block-entry : (job : Job) (store : List ℕ) (h i v : ℕ) → i < blockRows job → v < blockColumns job
+    → answerEntry job store h i v ≡ getD (blockAt (answerLength job) store h) (i * blockColumns job + v) 0
+unfolding answerEntry entry blockAt answerLength
+block-entry job store h i v hi hv =
+    let size : ℕ = blockRows job * blockColumns job in
+    let e : ℕ = i * blockColumns job + v in
+    let inside : e < size = omega (arith, row-end (blockColumns job) hi) in
+    let place : (h * blockRows job + i) * blockColumns job + v ≡ h * size + e = omega arith in
+    ap (λ (k : ℕ). getD store k 0) place ∙ sym (getD-take size (drop (h * size) store) e 0 inside ∙ getD-drop (h * size) store e 0)
+
+-- a size is its parts together
+parts : (a b : ℕ) → a % b ≡ 0 → b * (a / b) ≡ a
+parts a b h = omega (arith, div-add-mod a b)
+
+unfoldable pub answerBlock : Task → ℕ → List ℕ → List ℕ → List ℕ
+answerBlock x h ma mb =
+    let job = x .numbers in
+    productOf (prime job) (blockRows job) (blockInner job) (blockColumns job)
+    (hostShare A job (x .points) (suc h) (x .a) ma)
+    (hostShare B job (x .points) (suc h) (x .b) mb)
+
+module _ (x : Task) (f : Facts (x .numbers) (x .points)) where
+  abbrev job : Job
+  job = x .numbers
+
+  abbrev e : Exponents
+  e = exponents (layoutOf job) (parameters job)
+
+  cut : Cut (parameters job)
+  unfolding parameters
+  cut = let r = f .fits .ranged in record { m = r .m .low; p = r .p .low; n = r .n .low }
+
+  layout : Sound (parameters job) e
+  layout = sound (layoutOf job) (parameters job) cut
+
+  -- a place is below K
+  place-low : (k j : ℕ) → k < job .m → j < job .n → e .place k j < e .needed
+  unfolding parameters
+  place-low k j hk hj =
+      let p : 0 < job .p = f .fits .ranged .p .low in
+      omega (arith, layout .meet k 0 j hk p hj, layout .below k 0 0 j hk p p hj)
+
+  -- the product with its sizes as the cuts give them
+  cuts : List ℕ
+  cuts = productOf (prime job) (job .m * blockRows job) (job .p * blockInner job) (job .n * blockColumns job) (x .a) (x .b)
+
+  cuts-whole : cuts ≡ productOf (prime job) (job .t) (job .s) (job .r) (x .a) (x .b)
+  unfolding cuts blockRows blockInner blockColumns
+  cuts-whole =
+      ap (λ (n : ℕ). productOf (prime job) n (job .p * blockInner job) (job .n * blockColumns job) (x .a) (x .b)) (parts (job .t) (job .m) (f .fits .divides-t))
+      ∙ ap₂ (λ (n o : ℕ). productOf (prime job) (job .t) n o (x .a) (x .b)) (parts (job .s) (job .p) (f .fits .divides-s)) (parts (job .r) (job .n) (f .fits .divides-r))
+
+  module _ (ma mb : List ℕ) (heard : ℕ) (store : List ℕ) (c : Chosen job (x .points) heard)
+      (answers : (h : ℕ) → h < job .hosts → isHeard heard h ≡ true → blockAt (answerLength job) store h ≡ answerBlock x h ma mb) where
+    -- the polynomial of the answers' elements at i, v
+    cs : ℕ → ℕ → ℕ → ℕ
+    cs i v = coefficients e (planOf job) (x .a) ma (x .b) mb i v
+
+    answer-value : (h i v : ℕ) → h < job .hosts → isHeard heard h ≡ true → i < blockRows job → v < blockColumns job
+        → ⟨ prime job ⟩ answerEntry job store h i v ≈ ev (tab (cs i v) (e .needed)) (getD (x .points) h 0)
+    unfolding cs answerBlock planOf hostShare point answerOf
+    answer-value h i v l t hi hv =
+        let same : suc h - 1 ≡ h = omega arith in
+        ≈-trans (≈-of-eq (block-entry job store h i v hi hv ∙ ap (λ (ws : List ℕ). getD ws (i * blockColumns job + v) 0) (answers h l t)))
+        (≈-trans (answer-is e (planOf job) (x .a) ma (x .b) mb i v layout (point (x .points) (suc h)) hi hv)
+        (≈-of-eq (ap (λ (n : ℕ). ev (tab (cs i v) (e .needed)) (getD (x .points) n 0)) same)))
+
+    recovered : (i v d : ℕ) → i < blockRows job → v < blockColumns job
+        → coefficient (prime job) (map (λ h. getD (x .points) h 0) (chosen job heard)) (map (λ h. answerEntry job store h i v) (chosen job heard)) d
+        ≡ getD (tab (cs i v) (e .needed)) d 0 % prime job
+    unfolding neededOf
+    recovered i v d hi hv =
+        let hosts : List ℕ = chosen job heard in
+        let long = length-map hosts (λ h. getD (x .points) h 0) in
+        recover (f .fits .known .is-prime) (map (λ h. getD (x .points) h 0) hosts) (map (λ h. answerEntry job store h i v) hosts) (c .below) (c .distinct)
+        (tab (cs i v) (e .needed))
+        (omega (arith, length-tab (cs i v) (e .needed), long, c .count))
+        (λ n l.
+        let h : n < length hosts = omega (arith, long) in
+        ≈-trans (≈-of-eq (getD-map (λ h. answerEntry job store h i v) hosts n h))
+        (≈-trans (answer-value (getD hosts n 0) i v (c .within n h) (c .are-heard n h) hi hv)
+        (≈-of-eq (ap (ev (tab (cs i v) (e .needed))) (sym (getD-map (λ h. getD (x .points) h 0) hosts n h))))))
+        d
+
+    table : tableOf job (x .points) heard store ≡ cuts
+    unfolding tableOf tableEntry cuts productOf cs planOf parameters
+    table =
+        blocks-grid (tableEntry job (x .points) heard store)
+        (λ u w. productEntry (job .p * blockInner job) (job .n * blockColumns job) (x .a) (x .b) u w % prime job)
+        (job .m) (blockRows job) (job .n) (blockColumns job)
+        (λ k j i v hk hj hi hv.
+        recovered i v (e .place k j) hi hv
+        ∙ ap (λ (n : ℕ). n % prime job) (getD-tab (cs i v) (e .needed) (e .place k j) 0 (place-low k j hk hj))
+        ∙ place-is e (planOf job) (x .a) ma (x .b) mb i v layout k j hk hj .same)
+
+pub exact : (x : Task) → Accepted x → (ma mb : List ℕ) (heard : ℕ) (store : List ℕ)
+    → neededOf (x .numbers) ≤ size (isHeard heard) (x .numbers .hosts)
+    → ((h : ℕ) → h < x .numbers .hosts → isHeard heard h ≡ true → blockAt (answerLength (x .numbers)) store h ≡ answerBlock x h ma mb)
+    → tableOf (x .numbers) (x .points) heard store
+    ≡ productOf (prime (x .numbers)) (x .numbers .t) (x .numbers .s) (x .numbers .r) (x .a) (x .b)
+exact x accepted ma mb heard store enough answers =
+    let f : Facts (x .numbers) (x .points) = facts (x .numbers) (x .points) (accepted .planned) in
+    table x f ma mb heard store (chosen-hosts (x .numbers) (x .points) f heard enough) answers ∙ cuts-whole x f
