@@ -29,9 +29,9 @@ fn foreign_test(job: Job, rows: u32, columns: u32, h: Header) -> bool
     requires { ⌜ rows ≡ blockRows job × columns ≡ blockColumns job ⌝ }
     ensures { λ r. ⌜ r ≡ foreign job h ⌝ }
 {
-    let named = either(h.kind != ANSWER, h.number != job.number);
-    let field = either(named, h.modulus != job.modulus);
-    either(either(field, h.rows != rows), h.columns != columns)
+    let kind_or_job = either(h.kind != ANSWER, h.number != job.number);
+    let or_modulus = either(kind_or_job, h.modulus != job.modulus);
+    either(either(or_modulus, h.rows != rows), h.columns != columns)
 }
 
 // Tests 21 and 13: the hosts heard, and the store, which has room for that many elements. An answer has size elements.
@@ -53,13 +53,15 @@ fn own_refusal(job: Job, rows: u32, columns: u32, heard: u64, h: Header) -> u32
     requires { ⌜ rows ≡ blockRows job × columns ≡ blockColumns job × 1 ≤ h .host ⌝ }
     ensures { λ r. ⌜ ((message : List ℕ) → h ≡ headerOf message → r ≡ first (ownTests job heard message)) ⌝ }
 {
-    if foreign_test(job, rows, columns, h) {
+    let foreign = foreign_test(job, rows, columns, h);
+    let again = heard::is_heard(heard, h.host - 1);
+    if foreign {
         return refusal::FOREIGN;
     }
     if job.hosts < h.host {
         return refusal::HOST;
     }
-    if heard::is_heard(heard, h.host - 1) {
+    if again {
         return refusal::HEARD;
     }
     0
@@ -102,7 +104,9 @@ pub fn arrive(job: Job, points: &[u32], heard: u64, store: &mut [u32], message: 
                     }
                     let place = h.host - 1;
                     put_block(place as usize, size, message, store);
-                    Arrived::Taken(heard + (1u64 << place))
+                    let bit = 1u64 << place;
+                    let after = heard + bit;
+                    Arrived::Taken(after)
                 }
             }
         }

@@ -168,8 +168,8 @@ put-block-requires c κs =
     let room = ap (λ (n : ℕ). begin r .args .job .hosts * n) (size-is p) in
     (t .count ∙ sym (size-is p), omega (arith, t .whole, size-is p), omega (arith, row-end size (below e), t .room, room))
 
-cast-t26 : tie.Need-cast-t26
-cast-t26 c = search needs
+cast-bit : tie.Need-cast-bit
+cast-bit c = search needs
 
 -- where the tests had passed
 abbrev clear : tie.After-slice-known2 → tie.Else2
@@ -187,11 +187,11 @@ bit e =
     let r = reading-of e in
     ap (λ (x : ℕ). begin r .args .heard + x) (bit-of (r .reading2 .given .0 .0 .host - 1) (inside e) ∙ ap (λ (i : ℕ). 2 ^ i) (place-is r))
 
-shl-t27 : tie.Need-shl-t27
-shl-t27 c = inside (clear c)
+shl-bit : tie.Need-shl-bit
+shl-bit c = inside (clear c)
 
-add-t28 : tie.Need-add-t28
-add-t28 c =
+add-after : tie.Need-add-after
+add-after c =
     let e = clear c in
     let r = reading-of e in
     let s = begin r in
@@ -249,9 +249,9 @@ arrive-spec =
     sub-place
     cast-put-block
     put-block-requires
-    cast-t26
-    shl-t27
-    add-t28
+    cast-bit
+    shl-bit
+    add-after
     returns-3
     returns-4
     same-length

@@ -9,44 +9,47 @@ use Rattle.arrival.proofs.own_refusal.Tie as tie
 foreign-test-requires : tie.Need-foreign-test-requires
 foreign-test-requires c κs = search needs
 
-returns : tie.Need-returns
-unfolding first ownTests place
-returns c message is = rw (← is, ← c .before .foreign-test .ensures, c .if1 .taken)
-
-returns-2 : tie.Need-returns-2
-unfolding first ownTests place
-returns-2 c message is =
-    let f = c .before .before .before in
-    rw (← is, ← f .before .foreign-test .ensures, f .if1 .left, lt-ltb _ _ (c .if2 .taken))
-
 sub-is-heard : tie.Need-sub-is-heard
 sub-is-heard c = search needs
 
 is-heard-requires : tie.Need-is-heard-requires
 is-heard-requires c κs = search needs
 
+returns : tie.Need-returns
+unfolding first ownTests place
+returns c message is = let h = c .before in rw (← is, ← h .before .before .foreign-test .ensures, c .if1 .taken)
+
+returns-2 : tie.Need-returns-2
+unfolding first ownTests place
+returns-2 c message is =
+    let f = c .before .before .before in
+    let h = f .before in
+    rw (← is, ← h .before .before .foreign-test .ensures, f .if1 .left, lt-ltb _ _ (c .if2 .taken))
+
 returns-3 : tie.Need-returns-3
 unfolding first ownTests place
 returns-3 c message is =
-    let n = c .before .before .before in
+    let n = c .before in
     let f = n .before .before .before in
-    rw (← is, ← f .before .foreign-test .ensures, f .if1 .left, le-ltb _ _ (n .if2 .left), ← c .before .is-heard .ensures, c .if3 .taken)
+    let h = f .before in
+    rw (← is, ← h .before .before .foreign-test .ensures, f .if1 .left, le-ltb _ _ (n .if2 .left), ← h .is-heard .ensures, c .if3 .taken)
 
 returns-4 : tie.Need-returns-4
 unfolding first ownTests place
 returns-4 c message is =
-    let n = c .before .before .before in
+    let n = c .before in
     let f = n .before .before .before in
-    rw (← is, ← f .before .foreign-test .ensures, f .if1 .left, le-ltb _ _ (n .if2 .left), ← c .before .is-heard .ensures, c .if3 .left)
+    let h = f .before in
+    rw (← is, ← h .before .before .foreign-test .ensures, f .if1 .left, le-ltb _ _ (n .if2 .left), ← h .is-heard .ensures, c .if3 .left)
 
 pub own-refusal-spec : {M : Type 1} → statement M
 own-refusal-spec =
     tie.close
     (tie.spec
     foreign-test-requires
-    returns
-    returns-2
     sub-is-heard
     is-heard-requires
+    returns
+    returns-2
     returns-3
     returns-4)
