@@ -1,4 +1,4 @@
--- `field::inverse_of` meets its contract.
+-- `inverse::inverse_of` meets its contract.
 use mathlib.Core.Path.{sym, ap, _∙_, subst}
 use Prim.Native.Nat.{ℕ, _*_, _/_, _^_, _<_, _≤_}
 use native.Mathlib.Nat.{mod-lt, le-of-lt, div-le-self, mul-le-mul, zero-mod}
@@ -6,10 +6,10 @@ use native.Mathlib.Omega.{arith}
 use borrow.Author.Needs.{needs}
 use Rattle.algebra.specs.Modular.{Prime, inverse}
 use Rattle.algebra.proofs.Inverses.{inverse-of-zero}
 use Rattle.field.proofs.Moduli.{prime-prime, prime-small}
-use Rattle.field.proofs.Euclid.{Euclid, euclid-start, euclid-step, euclid-end, new-factor}
-use Rattle.field.proofs.inverse_of.Statement.{statement}
-use Rattle.field.proofs.inverse_of.Tie as tie
+use Rattle.inverse.proofs.Euclid.{Euclid, euclid-start, euclid-step, euclid-end, new-factor}
+use Rattle.inverse.proofs.inverse_of.Statement.{statement}
+use Rattle.inverse.proofs.inverse_of.Tie as tie
 
 abbrev Inv-loop : tie.InvT-loop
 Inv-loop a q last₀ next₀ last-factor₀ next-factor₀ last next last-factor next-factor = Euclid q a last next last-factor next-factor
