@@ -18,9 +18,9 @@ use Rattle.algebra.proofs.Lists.{below-append}
 use Rattle.elements.specs.Bytes.{bigEndian, numberAt}
 use Rattle.elements.proofs.Bytes.{bigEndian-bytes, bigEndian-numberAt}
 use Rattle.elements.proofs.Words.{number-of-one, number-of-two, number-of-four}
-use Rattle.message.specs.declared.Header.{Header}
-use Rattle.message.specs.Format.{mark, version, header, headerOf}
-use Rattle.message.proofs.Fields.{Ranged}
+use Rattle.header.specs.declared.Header.{Header}
+use Rattle.header.specs.Header.{mark, version, header, headerOf}
+use Rattle.header.proofs.Fields.{Ranged}
 
 module _ (h : Header) where
   pub header-is : header h

@@ -1,8 +1,8 @@
--- `message::host_test` meets its contract.
+-- `header::host_test` meets its contract.
 use borrow.Author.Needs.{needs}
-use Rattle.message.specs.Format.{hostTest}
-use Rattle.message.proofs.host_test.Statement.{statement}
-use Rattle.message.proofs.host_test.Tie as tie
+use Rattle.header.specs.Header.{hostTest}
+use Rattle.header.proofs.host_test.Statement.{statement}
+use Rattle.header.proofs.host_test.Tie as tie
 
 outside-requires : tie.Need-outside-requires
 outside-requires c κs = search needs

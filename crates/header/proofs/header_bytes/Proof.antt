@@ -1,9 +1,9 @@
--- `message::header_bytes` meets its contract.
+-- `header::header_bytes` meets its contract.
 use mathlib.Core.Path.{sym}
-use Rattle.message.proofs.Headers.{header-is}
+use Rattle.header.proofs.Headers.{header-is}
 use borrow.Author.Needs.{needs}
-use Rattle.message.proofs.header_bytes.Statement.{statement}
-use Rattle.message.proofs.header_bytes.Tie as tie
+use Rattle.header.proofs.header_bytes.Statement.{statement}
+use Rattle.header.proofs.header_bytes.Tie as tie
 
 low-byte-requires : tie.Need-low-byte-requires
 low-byte-requires c κs = search needs

@@ -1,8 +1,8 @@
--- `message::size_test` meets its contract.
+-- `header::size_test` meets its contract.
 use borrow.Author.Needs.{needs}
-use Rattle.message.specs.Format.{sizeTest}
-use Rattle.message.proofs.size_test.Statement.{statement}
-use Rattle.message.proofs.size_test.Tie as tie
+use Rattle.header.specs.Header.{sizeTest}
+use Rattle.header.proofs.size_test.Statement.{statement}
+use Rattle.header.proofs.size_test.Tie as tie
 
 outside-requires : tie.Need-outside-requires
 outside-requires c κs = search needs

@@ -1,4 +1,4 @@
--- `message::mark_test` meets its contract.
+-- `header::mark_test` meets its contract.
 use mathlib.Core.Path.{_≡_, ap}
 use mathlib.Core.Bool.{not}
 use Prim.Native.Nat.{ℕ}
@@ -6,10 +6,10 @@ use native.Mathlib.Omega.{arith}
 use lib.Dec.{eqb}
 use Rattle.elements.specs.Bytes.{numberAt}
 use Rattle.elements.proofs.Words.{number-of-two}
-use Rattle.message.specs.Format.{mark, markTest}
+use Rattle.header.specs.Header.{mark, markTest}
 use borrow.Author.Needs.{needs}
-use Rattle.message.proofs.mark_test.Statement.{statement}
-use Rattle.message.proofs.mark_test.Tie as tie
+use Rattle.header.proofs.mark_test.Statement.{statement}
+use Rattle.header.proofs.mark_test.Tie as tie
 
 shared-slice-read-word : tie.Need-shared-slice-read-word
 shared-slice-read-word c = search needs

@@ -1,4 +1,4 @@
--- `message::version_test` meets its contract.
+-- `header::version_test` meets its contract.
 use mathlib.Core.Path.{sym, ap}
 use mathlib.Core.Bool.{not}
 use native.Mathlib.Omega.{arith}
@@ -6,9 +6,9 @@ use borrow.Author.Tests.{eq-eqb, ne-eqb}
 use Rattle.elements.proofs.Words.{number-of-two}
 use borrow.Author.Needs.{needs}
 use Rattle.elements.specs.Bytes.{numberAt}
-use Rattle.message.specs.Format.{version, versionTest}
-use Rattle.message.proofs.version_test.Statement.{statement}
-use Rattle.message.proofs.version_test.Tie as tie
+use Rattle.header.specs.Header.{version, versionTest}
+use Rattle.header.proofs.version_test.Statement.{statement}
+use Rattle.header.proofs.version_test.Tie as tie
 
 shared-slice-read-pair : tie.Need-shared-slice-read-pair
 shared-slice-read-pair c = search needs

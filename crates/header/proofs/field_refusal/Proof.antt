@@ -1,4 +1,4 @@
--- `message::field_refusal` meets its contract.
+-- `header::field_refusal` meets its contract.
 use mathlib.Core.Path.{_≡_, refl, sym, _∙_}
 use mathlib.Core.Bool.{false}
 use native.Mathlib.Nat.{mul-le-mul}
@@ -9,9 +9,9 @@ use Rattle.refusal.proofs.Chains.{first-none, first-hit, first-miss}
 use Rattle.refusal.proofs.Limits.{within-both}
 use Rattle.field.specs.Modulus.{noModulus}
 use Rattle.field.proofs.Moduli.{none-named, known}
-use Rattle.message.specs.Format.{elementCount, kindTest, hostTest, sizeTest, blockTest, fieldTests}
-use Rattle.message.proofs.field_refusal.Statement.{statement}
-use Rattle.message.proofs.field_refusal.Tie as tie
+use Rattle.header.specs.Header.{elementCount, kindTest, hostTest, sizeTest, blockTest, fieldTests}
+use Rattle.header.proofs.field_refusal.Statement.{statement}
+use Rattle.header.proofs.field_refusal.Tie as tie
 
 kind-test-requires : tie.Need-kind-test-requires
 kind-test-requires c κs = search needs

@@ -1,11 +1,11 @@
--- `message::header_fields` meets its contract.
+-- `header::header_fields` meets its contract.
 use mathlib.Core.Path.{sym, _∙_}
 use native.Mathlib.Omega.{arith}
 use Rattle.elements.proofs.Words.{number-of-one, number-of-two, number-of-four}
-use Rattle.message.specs.Format.{headerOf}
+use Rattle.header.specs.Header.{headerOf}
 use borrow.Author.Needs.{needs}
-use Rattle.message.proofs.header_fields.Statement.{statement}
-use Rattle.message.proofs.header_fields.Tie as tie
+use Rattle.header.proofs.header_fields.Statement.{statement}
+use Rattle.header.proofs.header_fields.Tie as tie
 
 shared-slice-read-t3 : tie.Need-shared-slice-read-t3
 shared-slice-read-t3 c = search needs

@@ -1,10 +1,10 @@
--- `message::kind_test` meets its contract.
+-- `header::kind_test` meets its contract.
 use mathlib.Core.Path.{sym}
 use native.Mathlib.Omega.{arith}
-use Rattle.message.specs.Format.{kindTest}
-use Rattle.message.proofs.Fields.{inside, under, over}
-use Rattle.message.proofs.kind_test.Statement.{statement}
-use Rattle.message.proofs.kind_test.Tie as tie
+use Rattle.header.specs.Header.{kindTest}
+use Rattle.header.proofs.Fields.{inside, under, over}
+use Rattle.header.proofs.kind_test.Statement.{statement}
+use Rattle.header.proofs.kind_test.Tie as tie
 
 returns : tie.Need-returns
 unfolding kindTest
