@@ -9,7 +9,7 @@ use libc::STDOUT_FILENO;
 use header::Header;
 use header::Reading;
 use plan::Job;
-use share::Matrix;
+use weights::Matrix;
 use words::least;
 
 // What stands in an output before a call.

@@ -2,7 +2,6 @@
 --
 --   Placed s k i    row i of row k of the blocks: its weights and its row of the matrix are within their lists
 --   placed          each such row is
---   weights-end     the masks' weights are written behind those of the blocks
 use mathlib.Core.Path.{_≡_, sym, ap, ap₂, _∙_}
 use mathlib.Core.List.{List, _++_, append-assoc}
 use Prim.Native.Nat.{ℕ, _+_, _*_, _<_, _≤_}
@@ -11,9 +10,9 @@ use native.Mathlib.Omega.{arith}
 use lib.ListN.{length, take, drop}
 use lib.Seq.{take-at, drop-at, drop-drop}
 use Rattle.algebra.proofs.Orders.{row-end}
-use Rattle.share.specs.declared.Side.{Side}
+use Rattle.weights.specs.declared.Side.{Side}
 use Rattle.share.specs.Sharing.{blockLength, matrixLength}
-use Rattle.share.specs.Weights.{Small}
+use Rattle.weights.specs.Weights.{Small}
 
 pub record Placed (s : Side) (k i : ℕ) : Type 0 where
   pub weights : k * s .across + s .across ≤ s .down * s .across
@@ -39,12 +38,3 @@ placed s k i small hk hi =
       matrix = omega (arith, end);
       most = omega (arith, mul-le-mul (mul-le-mul (small .down) (small .across)) (small .block));
     }
-
--- the masks' weights behind those of the blocks
-pub weights-end : (blocks masks old now row : List ℕ) (n count : ℕ) → length blocks ≡ n → now ≡ blocks ++ drop n old → row ≡ masks
-    → take n now ++ (row ++ drop count (drop n now)) ≡ (blocks ++ masks) ++ drop (n + count) old
-weights-end blocks masks old now row n count size e r =
-    let front : take n now ≡ blocks = ap (take n) e ∙ take-at blocks _ n size in
-    let back : drop count (drop n now) ≡ drop (n + count) old
-    = ap (λ (l : List ℕ). drop count (drop n l)) e ∙ ap (drop count) (drop-at blocks _ n size) ∙ drop-drop count n old in
-    ap₂ (λ (l m : List ℕ). l ++ m) front (ap₂ (λ (l m : List ℕ). l ++ m) r back) ∙ sym (append-assoc blocks masks (drop (n + count) old))

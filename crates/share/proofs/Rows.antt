@@ -13,8 +13,8 @@ use Rattle.field.specs.declared.Modulus.{Modulus}
 use Rattle.field.specs.Modulus.{prime}
 use Rattle.rows.specs.Combination.{zeros, added, reduced}
 use Rattle.rows.proofs.Exact.{added-more, reduced-tab}
-use Rattle.share.specs.declared.Side.{Side}
-use Rattle.share.specs.Weights.{Ready, blockTerms, maskTerms, rowSums}
+use Rattle.weights.specs.declared.Side.{Side}
+use Rattle.share.specs.Rows.{Ready, blockTerms, maskTerms, rowSums}
 use Rattle.share.proofs.Sums.{row-fits}
 
 module _ (m : Modulus) (s : Side) (w xs ms : List ℕ) (ready : Ready (prime m) s w xs ms) (i : ℕ) (sums out : List ℕ) (same : length sums ≡ length out) where

@@ -8,7 +8,7 @@ use Rattle.rows.specs.Combination.{added}
 use Rattle.rows.proofs.Steps.{upTo}
 use Rattle.rows.proofs.Exact.{added-more}
 use Rattle.algebra.proofs.Grids.{tab-cong}
-use Rattle.share.specs.Weights.{weightCount}
+use Rattle.weights.specs.Weights.{weightCount}
 use mathlib.Core.List.{List}
 use lib.ListN.{take, drop}
 use Rattle.rows.specs.Combination.{combination}
@@ -22,7 +22,7 @@ use lib.ListN.{length, getD}
 use Rattle.algebra.specs.Lists.{tab}
 use Rattle.algebra.specs.Sums.{sum}
 use Rattle.rows.proofs.Steps.{up-to-none}
-use Rattle.share.specs.Weights.{blockTerms}
+use Rattle.share.specs.Rows.{blockTerms}
 use Rattle.share.proofs.Places.{placed}
 use Rattle.share.proofs.add_blocks.Statement.{statement}
 use Rattle.share.proofs.add_blocks.Tie as tie

@@ -10,7 +10,8 @@ use Rattle.algebra.specs.Lists.{tab}
 use Rattle.algebra.proofs.Orders.{row-end}
 use Rattle.rows.specs.Combination.{added}
 use Rattle.share.specs.Sharing.{blockLength, maskLength}
-use Rattle.share.specs.Weights.{weightCount, blockTerms}
+use Rattle.weights.specs.Weights.{weightCount}
+use Rattle.share.specs.Rows.{blockTerms}
 use Rattle.share.proofs.Rows.{row-exact}
 use borrow.Author.Needs.{needs}
 use Rattle.share.proofs.share_row.Statement.{statement}

@@ -11,9 +11,9 @@ use Rattle.algebra.proofs.Orders.{row-end}
 use Rattle.algebra.proofs.Grids.{rows-none, rows-more, rows-all}
 use Rattle.field.specs.declared.Modulus.{Modulus}
 use Rattle.field.specs.Modulus.{prime}
-use Rattle.share.specs.declared.Side.{Side}
+use Rattle.weights.specs.declared.Side.{Side}
 use Rattle.share.specs.Sharing.{blockLength}
-use Rattle.share.specs.Weights.{rowSums}
+use Rattle.share.specs.Rows.{rowSums}
 use Rattle.share.proofs.share_rows.Statement.{statement}
 use Rattle.share.proofs.share_rows.Tie as tie
 

@@ -1,12 +1,4 @@
--- `share::weigh` meets its contract.
-use Rattle.field.specs.declared.Modulus.{Modulus}
-use Rattle.field.specs.Modulus.{prime}
-use Rattle.layout.specs.declared.Layout.{Layout}
-use Rattle.layout.specs.declared.Parameters.{Parameters}
-use Rattle.layout.specs.declared.Series.{Series}
-use Rattle.layout.specs.Exponents.{exponents, term}
-use Prim.Native.Nat.{ℕ, _-_, _^_, _%_, _≤_}
-use Rattle.algebra.specs.Lists.{tab}
+-- `weights::weigh` meets its contract.
 use mathlib.Core.Path.{_≡_, refl, ap, _∙_}
 use mathlib.Core.List.{_++_}
 use Prim.Native.Nat.{ℕ, _-_, _^_, _%_, _≤_}
@@ -15,23 +7,28 @@ use borrow.Author.Needs.{needs}
 use lib.ListN.{length, drop, set, length-set}
 use Rattle.algebra.specs.Lists.{tab}
 use Rattle.algebra.proofs.Fronts.{front-none, front-more, front-all}
+use Rattle.field.specs.declared.Modulus.{Modulus}
 use Rattle.field.specs.Modulus.{prime}
-use Rattle.share.proofs.weigh.Statement.{statement}
-use Rattle.share.proofs.weigh.Tie as tie
+use Rattle.layout.specs.declared.Layout.{Layout}
+use Rattle.layout.specs.declared.Parameters.{Parameters}
+use Rattle.layout.specs.declared.Series.{Series}
+use Rattle.layout.specs.Exponents.{exponents, term}
+use Rattle.weights.proofs.weigh.Statement.{statement}
+use Rattle.weights.proofs.weigh.Tie as tie
 
 -- the point to an exponent
 abbrev weight : Modulus → Layout → Parameters → Series → ℕ → ℕ → ℕ → ℕ
 weight modulus layout g series row x j = x ^ term (exponents layout g) series row j % prime modulus
 
 abbrev Inv-loop : tie.InvT-loop
-Inv-loop modulus layout g series row x out₀ j₀ out j =
+Inv-loop series row x out₀ modulus layout g j₀ out j =
     record { is : out ≡ tab (weight modulus layout g series row x) j ++ drop j out₀; short : j ≤ length out₀; same : length out ≡ length out₀ }
 
 abbrev μ-loop : tie.MeasureT-loop
-μ-loop modulus layout g series row x out₀ j₀ out j = length out₀ - j
+μ-loop series row x out₀ modulus layout g j₀ out j = length out₀ - j
 
 loop-holds : tie.Need-loop-holds Inv-loop μ-loop
-loop-holds c = record { is = front-none _ (c .before .args .out .now); short = omega arith; same = refl }
+loop-holds c = record { is = front-none _ (c .before .before .args .out .now); short = omega arith; same = refl }
 
 cast-exponent-of : tie.Need-cast-exponent-of Inv-loop μ-loop
 cast-exponent-of c = omega arith
@@ -57,10 +54,10 @@ loop-less c = omega arith
 loop-again : tie.Need-loop-again Inv-loop μ-loop
 loop-again c =
     let k = c .before .before .before in
-    let a = k .before .before .args in
+    let a = k .before .before .before .args in
     let l = k .loop in
-    let f = weight (a .modulus) (a .layout) (a .g) (a .series) (a .row) (a .x) in
-    let value : c .power .result ≡ f (l .j) = c .power .ensures ∙ ap (λ (n : ℕ). a .x ^ n % prime (a .modulus)) (c .before .exponent-of .ensures) in
+    let f = weight (a .plan .modulus) (a .plan .layout) (a .plan .parameters) (a .series) (a .row) (a .x) in
+    let value : c .power .result ≡ f (l .j) = c .power .ensures ∙ ap (λ (n : ℕ). a .x ^ n % prime (a .plan .modulus)) (c .before .exponent-of .ensures) in
     record {
       is = ap (set (l .out) (l .j)) value ∙ front-more f (a .out .now) (l .out) (l .j) (omega arith) (l .inv .is);
       short = omega arith;
@@ -73,8 +70,8 @@ same-length c = c .before .loop .inv .same
 returns : tie.Need-returns Inv-loop μ-loop
 returns c =
     let l = c .before in
-    let a = l .before .before .args in
-    let f = weight (a .modulus) (a .layout) (a .g) (a .series) (a .row) (a .x) in
+    let a = l .before .before .before .args in
+    let f = weight (a .plan .modulus) (a .plan .layout) (a .plan .parameters) (a .series) (a .row) (a .x) in
     let all : l .loop .j ≡ length (a .out .now) = omega arith in
     l .loop .inv .is
     ∙ ap (λ (k : ℕ). tab f k ++ drop k (a .out .now)) all

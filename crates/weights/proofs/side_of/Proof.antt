@@ -1,8 +1,8 @@
--- `share::side_of` meets its contract.
-use Rattle.share.specs.Sharing.{side}
+-- `weights::side_of` meets its contract.
+use Rattle.weights.specs.Weights.{side}
 use borrow.Author.Needs.{needs}
-use Rattle.share.proofs.side_of.Statement.{statement}
-use Rattle.share.proofs.side_of.Tie as tie
+use Rattle.weights.proofs.side_of.Statement.{statement}
+use Rattle.weights.proofs.side_of.Tie as tie
 
 enum-told : tie.Need-enum-told
 enum-told c = search needs
