@@ -4,10 +4,10 @@
 ghost use Prim.Native.Nat.{_≤_};
 ghost use lib.ListN.{length};
 ghost use Rattle.io.specs.Counts.{Counts};
-use libc::STDIN_FILENO;
-use libc::STDOUT_FILENO;
 use header::Header;
 use header::Reading;
+use libc::STDIN_FILENO;
+use libc::STDOUT_FILENO;
 use plan::Job;
 use weights::Matrix;
 use words::least;

@@ -17,7 +17,7 @@ ghost use Rattle.share.specs.Sharing.{
   shareTests,
   shareAfter,
 };
-ghost use Rattle.share.specs.Rows.{Ready, blockTerms, rowSums};
+ghost use Rattle.share.specs.Rows.{Ready, blockTerms, maskTerms, rowSums};
 use field::Modulus;
 use plan::Job;
 use plan::Plan;
@@ -92,6 +92,19 @@ fn add_blocks(s: Side, i: usize, weights: &[u32], xs: &[u32], sums: &mut [u64])
     }
 }
 
+// Adds the masks' part of row i of the share to the sums: each mask has one row in it.
+fn add_masks(s: Side, i: usize, weights: &[u32], masks: &[u32], sums: &mut [u64])
+    requires { ⌜ Small s × i < s .rows × weightCount s ≤ length (now weights) × length (now masks) ≡ maskLength s ⌝ }
+    ensures { λ _. ⌜ now (sums .exit)
+        ≡ tab (λ j. (getD (now (sums .entry)) j 0 + maskTerms s (now (weights .entry)) (now (masks .entry)) i j) % 2 ^ 64) (length (now (sums .entry))) ⌝ }
+{
+    let start = s.down * s.across;
+    let end = start + s.count;
+    let from = i * s.columns;
+    let block = s.rows * s.columns;
+    rows::add_rows(sums, &weights[start..end], &masks[from..], block);
+}
+
 // Row i of the share. There is a sum for each element of the output.
 fn share_row(
     modulus: Modulus,
@@ -109,15 +122,7 @@ fn share_row(
 {
     rows::clear(sums);
     add_blocks(s, i, weights, xs, sums);
-    let start = s.down * s.across;
-    let end = start + s.count;
-    let from = i * s.columns;
-    rows::add_rows(
-        sums,
-        &weights[start..end],
-        &masks[from..],
-        s.rows * s.columns,
-    );
+    add_masks(s, i, weights, masks, sums);
     rows::reduce_row(modulus, sums, out);
 }
 
