@@ -9,4 +9,5 @@ pub mod Primes
 pub mod Inverses
 pub mod Sums
 pub mod Polynomials
+pub mod Division
 pub mod Interpolation
