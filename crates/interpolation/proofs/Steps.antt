@@ -4,7 +4,6 @@
 --   length-coefficients, getD-coefficients  the first n coefficients have their number, and their elements
 --   product-none, product-more              the product of no roots, and of one more
 --   after                                   what a quotient has at e
---   after-below                             it is below q
 --   after-none, after-more                  past the last coefficient, and one place before
 --   scale-none, scale-skip, scale-more      the scale over no points, with x itself more, and with another point more
 use mathlib.Core.Path.{_≡_, sym, ap, _∙_}
@@ -79,10 +78,6 @@ unfoldable pub after : ℕ → ℕ → List ℕ → ℕ → ℕ → ℕ
 after q x cs n e = ev (drop (suc e) (take (suc n) cs)) x % q
 
 module _ (q x : ℕ) (cs : List ℕ) (n : ℕ) where
-  pub after-below : (e : ℕ) → 1 < q → after q x cs n e < q
-  unfolding after
-  after-below e above = mod-lt (ev (drop (suc e) (take (suc n) cs)) x) (omega arith)
-
   pub after-none : 0 ≡ after q x cs n n
   unfolding after ev
   after-none =

@@ -1,7 +1,7 @@
 // Lagrange's basis polynomials, each by one division of the product of all roots.
 ghost use mathlib.Core.Path.{_≡_};
 ghost use mathlib.Core.List.{[], _∷_};
-ghost use Prim.Native.Nat.{_-_, _%_};
+ghost use Prim.Native.Nat.{_+_, _-_, _*_, _%_};
 ghost use lib.ListN.{length, getD};
 ghost use Rattle.algebra.specs.Lists.{tab};
 ghost use Rattle.algebra.specs.Polynomials.{addRoot};
@@ -23,6 +23,13 @@ fn set_one(out: &mut [u32])
     }
 }
 
+// a plus b times c, modulo the prime.
+fn plus_product(modulus: Modulus, a: u32, b: u32, c: u32) -> u32
+    ensures { λ r. ⌜ r ≡ (a + b * c) % prime modulus ⌝ }
+{
+    field::reduce(modulus, a as u64 + wide_product(b, c))
+}
+
 // A polynomial times (X - y), modulo the prime; it keeps its number of coefficients.
 fn times_root(modulus: Modulus, y: u32, cs: &mut [u32])
     ensures { λ _. ⌜ now (cs .exit)
@@ -34,7 +41,7 @@ fn times_root(modulus: Modulus, y: u32, cs: &mut [u32])
     let mut e = 0;
     while e < cs.len() {
         let here = cs[e];
-        cs[e] = field::reduce(modulus, before as u64 + wide_product(minus, here));
+        cs[e] = plus_product(modulus, before, minus, here);
         before = here;
         e += 1;
     }
@@ -68,7 +75,7 @@ pub fn divide_root(modulus: Modulus, cs: &[u32], x: u32, out: &mut [u32])
     let mut value = 0;
     let mut e = out.len();
     while 0 < e {
-        value = field::reduce(modulus, coefficient(cs, e) as u64 + wide_product(x, value));
+        value = plus_product(modulus, coefficient(cs, e), x, value);
         e -= 1;
         out[e] = value;
     }

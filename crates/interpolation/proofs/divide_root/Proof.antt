@@ -1,15 +1,13 @@
 -- `interpolation::divide_root` meets its contract.
-use mathlib.Core.Path.{_≡_, refl, ap, ap₂, _∙_}
-use Prim.Native.Nat.{ℕ, _+_, _-_, _%_, _^_, _≤_}
-use native.Mathlib.Nat.{mul-le-mul}
+use mathlib.Core.Path.{_≡_, refl, ap, _∙_}
+use Prim.Native.Nat.{ℕ, _+_, _-_, _*_, _%_, _≤_}
 use native.Mathlib.Omega.{arith}
 use lib.ListN.{length, drop, set, length-set}
 use Rattle.algebra.specs.Lists.{tab}
 use Rattle.algebra.proofs.Fronts.{back-none, back-more}
 use Rattle.field.specs.Modulus.{prime}
-use Rattle.field.proofs.Moduli.{prime-prime, prime-small}
 use Rattle.interpolation.specs.Basis.{quotient}
-use Rattle.interpolation.proofs.Steps.{after, after-below, after-none, after-more}
+use Rattle.interpolation.proofs.Steps.{after, after-none, after-more}
 use borrow.Author.Needs.{needs}
 use Rattle.interpolation.proofs.divide_root.Statement.{statement}
 use Rattle.interpolation.proofs.divide_root.Tie as tie
@@ -40,23 +38,8 @@ loop-holds c =
 coefficient-requires : tie.Need-coefficient-requires Inv-loop μ-loop
 coefficient-requires c κs = search needs
 
-cast-reduce : tie.Need-cast-reduce Inv-loop μ-loop
-cast-reduce c = omega arith
-
-wide-product-requires : tie.Need-wide-product-requires Inv-loop μ-loop
-wide-product-requires c κs = search needs
-
-add-reduce : tie.Need-add-reduce Inv-loop μ-loop
-add-reduce c =
-    let l = c .before .before .before in
-    let a = l .before .before .before .args in
-    let small : l .loop .value ≤ 2 ^ 31
-    = omega (arith, l .loop .inv .last, after-below (prime (a .modulus)) (a .x) (a .cs .now) (length (a .out .now)) (l .loop .e) (prime-prime (a .modulus) .above-one), prime-small (a .modulus)) in
-    let word : a .x ≤ 2 ^ 32 = omega arith in
-    omega (arith, c .wide-product .ensures, mul-le-mul word small)
-
-reduce-requires : tie.Need-reduce-requires Inv-loop μ-loop
-reduce-requires c κs = search needs
+plus-product-requires : tie.Need-plus-product-requires Inv-loop μ-loop
+plus-product-requires c κs = search needs
 
 sub-e : tie.Need-sub-e Inv-loop μ-loop
 sub-e c = omega arith
@@ -72,18 +55,20 @@ loop-less c = omega arith
 
 loop-again : tie.Need-loop-again Inv-loop μ-loop
 loop-again c =
-    let l = c .before .before .before .before in
+    let l = c .before .before .before in
     let a = l .before .before .before .args in
     let q = prime (a .modulus) in
     let e = l .loop .e in
     let n = length (a .out .now) in
     let f = after q (a .x) (a .cs .now) n in
-    let value : c .reduce .result ≡ f (e - 1)
-    = c .reduce .ensures
-    ∙ ap₂ (λ (k p : ℕ). (k + p) % q) (c .before .before .coefficient .ensures) (c .before .wide-product .ensures)
+    let value : c .plus-product .result ≡ f (e - 1)
+    = c .plus-product .ensures
+    ∙ ap (λ (k : ℕ). (k + a .x * l .loop .value) % q) (c .before .coefficient .ensures)
     ∙ after-more q (a .x) (a .cs .now) n (l .loop .value) e (omega arith) (omega arith) (l .loop .inv .last) in
     record {
-      is = ap (λ (v : ℕ). drop (e - 1) (set (l .loop .out) (e - 1) v)) value ∙ back-more f (l .loop .out) n e (l .loop .inv .same) (omega arith) (omega arith) (l .loop .inv .is);
+      is =
+          ap (λ (v : ℕ). drop (e - 1) (set (l .loop .out) (e - 1) v)) value
+          ∙ back-more f (l .loop .out) n e (l .loop .inv .same) (omega arith) (omega arith) (l .loop .inv .is);
       last = value;
       short = omega arith;
       same = simp length-set (l .loop .inv .same);
@@ -95,9 +80,7 @@ same-length c = c .before .loop .inv .same
 returns : tie.Need-returns Inv-loop μ-loop
 unfolding quotient after
 returns c =
-    let a = c .before .before .before .before .args in
     let l = c .before .loop in
-    let f = after (prime (a .modulus)) (a .x) (a .cs .now) (length (a .out .now)) in
     let all : l .e ≡ 0 = omega arith in
     rw all at (l .inv .is)
 
@@ -109,10 +92,7 @@ divide-root-spec =
     μ-loop
     loop-holds
     coefficient-requires
-    cast-reduce
-    wide-product-requires
-    add-reduce
-    reduce-requires
+    plus-product-requires
     sub-e
     mul-out
     slice-write-out

@@ -1,8 +1,7 @@
 -- `interpolation::times_root` meets its contract.
 use mathlib.Core.Path.{_≡_, refl, ap, ap₂, _∙_}
 use mathlib.Core.List.{List, _∷_, _++_}
-use Prim.Native.Nat.{ℕ, _+_, _-_, _*_, _%_, _^_, _<_, _≤_}
-use native.Mathlib.Nat.{mul-le-mul}
+use Prim.Native.Nat.{ℕ, _+_, _-_, _*_, _%_, _≤_}
 use native.Mathlib.Numerals.{add-one}
 use native.Mathlib.Omega.{arith}
 use lib.ListN.{length, getD, drop, set, length-set}
@@ -11,7 +10,6 @@ use Rattle.algebra.specs.Polynomials.{addRoot}
 use Rattle.algebra.proofs.Fronts.{front-none, front-more, front-old, front-all}
 use Rattle.algebra.proofs.Division.{getD-addRoot}
 use Rattle.field.specs.Modulus.{prime}
-use Rattle.field.proofs.Moduli.{prime-small}
 use Rattle.interpolation.specs.Basis.{coefficients}
 use Rattle.interpolation.proofs.Steps.{residue-below}
 use borrow.Author.Needs.{needs}
@@ -27,7 +25,6 @@ Inv-loop modulus y cs₀ root minus before₀ e₀ cs before e =
     record {
       is : cs ≡ tab (term (prime modulus) y cs₀) e ++ drop e cs₀;
       last : before ≡ getD (0 ∷ cs₀) e 0;
-      fits : before < 2 ^ 32;
       short : e ≤ length cs₀;
       same : length cs ≡ length cs₀;
     }
@@ -41,12 +38,6 @@ reduce-requires c κs = search needs
 prime-of-requires : tie.Need-prime-of-requires Inv-loop μ-loop
 prime-of-requires c κs = search needs
 
--- the negative of the root
-minus-is : (c : tie.After-prime-of Inv-loop μ-loop)
-    → c .prime-of .result - c .before .reduce .result
-    ≡ prime (c .before .before .before .args .modulus) - c .before .before .before .args .y % prime (c .before .before .before .args .modulus)
-minus-is c = ap₂ (λ (q r : ℕ). q - r) (c .prime-of .ensures) (c .before .reduce .ensures)
-
 sub-minus : tie.Need-sub-minus Inv-loop μ-loop
 sub-minus c =
     let a = c .before .before .before .args in
@@ -54,13 +45,7 @@ sub-minus c =
 
 loop-holds : tie.Need-loop-holds Inv-loop μ-loop
 loop-holds c =
-    record {
-      is = front-none _ (c .before .before .before .args .cs .now);
-      last = refl;
-      fits = omega arith;
-      short = omega arith;
-      same = refl;
-    }
+    record { is = front-none _ (c .before .before .before .args .cs .now); last = refl; short = omega arith; same = refl }
 
 mul-here : tie.Need-mul-here Inv-loop μ-loop
 mul-here c = omega arith
@@ -68,22 +53,8 @@ mul-here c = omega arith
 slice-read-here : tie.Need-slice-read-here Inv-loop μ-loop
 slice-read-here c = omega arith
 
-cast-reduce : tie.Need-cast-reduce Inv-loop μ-loop
-cast-reduce c = omega arith
-
-wide-product-requires : tie.Need-wide-product-requires Inv-loop μ-loop
-wide-product-requires c κs = search needs
-
-add-reduce : tie.Need-add-reduce Inv-loop μ-loop
-add-reduce c =
-    let l = c .before .before .before in
-    let a = l .before .before .before .before .args in
-    let here : getD (l .loop .cs) (l .loop .e) 0 ≤ 2 ^ 32 = omega (arith, c .before .slice-known2 .given (l .loop .e)) in
-    let small : l .before .prime-of .result - l .before .before .reduce .result ≤ 2 ^ 31 = omega (arith, minus-is (l .before), prime-small (a .modulus)) in
-    omega (arith, c .wide-product .ensures, mul-le-mul small here, l .loop .inv .fits)
-
-reduce-requires-2 : tie.Need-reduce-requires-2 Inv-loop μ-loop
-reduce-requires-2 c κs = search needs
+plus-product-requires : tie.Need-plus-product-requires Inv-loop μ-loop
+plus-product-requires c κs = search needs
 
 mul-cs : tie.Need-mul-cs Inv-loop μ-loop
 mul-cs c = omega arith
@@ -99,23 +70,24 @@ loop-less c = omega arith
 
 loop-again : tie.Need-loop-again Inv-loop μ-loop
 loop-again c =
-    let l = c .before .before .before .before in
+    let l = c .before .before .before in
     let a = l .before .before .before .before .args in
     let e = l .loop .e in
     let xs = a .cs .now in
     let q = prime (a .modulus) in
     let f = term q (a .y) xs in
+    let minus : l .before .prime-of .result - l .before .before .reduce .result ≡ q - a .y % q
+    = ap₂ (λ (p r : ℕ). p - r) (l .before .prime-of .ensures) (l .before .before .reduce .ensures) in
     let old : getD (l .loop .cs) e 0 ≡ getD xs e 0
     = ap (λ (ys : List ℕ). getD ys e 0) (l .loop .inv .is) ∙ front-old f xs e e (omega arith) in
-    let product : c .before .wide-product .result ≡ (q - a .y % q) * getD xs e 0
-    = c .before .wide-product .ensures ∙ ap₂ (λ (k x : ℕ). k * x) (minus-is (l .before)) old in
-    let sum : l .loop .before + c .before .wide-product .result ≡ getD (addRoot (q - a .y % q) xs) e 0
-    = omega (arith, l .loop .inv .last, getD-addRoot (q - a .y % q) xs e) in
-    let value : c .reduce2 .result ≡ f e = c .reduce2 .ensures ∙ ap (λ (k : ℕ). k % q) sum in
+    let product : (l .before .prime-of .result - l .before .before .reduce .result) * getD (l .loop .cs) e 0 ≡ (q - a .y % q) * getD xs e 0
+    = ap₂ (λ (k x : ℕ). k * x) minus old in
+    let sum : l .loop .before + (l .before .prime-of .result - l .before .before .reduce .result) * getD (l .loop .cs) e 0 ≡ getD (addRoot (q - a .y % q) xs) e 0
+    = omega (arith, getD-addRoot (q - a .y % q) xs e) in
+    let value : c .plus-product .result ≡ f e = c .plus-product .ensures ∙ ap (λ (k : ℕ). k % q) sum in
     record {
       is = ap (set (l .loop .cs) e) value ∙ front-more f xs (l .loop .cs) e (omega arith) (l .loop .inv .is);
       last = rw add-one old;
-      fits = omega (arith, c .before .before .slice-known2 .given e);
       short = omega arith;
       same = simp length-set (l .loop .inv .same);
     }
@@ -144,10 +116,7 @@ times-root-spec =
     loop-holds
     mul-here
     slice-read-here
-    cast-reduce
-    wide-product-requires
-    add-reduce
-    reduce-requires-2
+    plus-product-requires
     mul-cs
     slice-write-cs
     add-e
