@@ -24,15 +24,16 @@ use Rattle.plan.specs.declared.Job.{Job}
 use Rattle.plan.specs.declared.Planned.the-variants.{Refused as Planned·Refused}
 use Rattle.plan.specs.Planning.{blockRows, blockColumns, planTests, planned}
 use Rattle.plan.proofs.Then.{then-refused, then-own}
-use Rattle.message.specs.declared.Header.{Header}
-use Rattle.message.specs.Format.{headerOf, elementCount, elements, kindTest, hostTest, fieldTests, messageTests}
+use Rattle.header.specs.declared.Header.{Header}
+use Rattle.header.specs.Header.{headerTests, headerOf, elementCount, kindTest, hostTest, fieldTests}
+use Rattle.message.specs.Format.{elements, messageTests}
 use Rattle.message.proofs.Fields.{readable}
 use Rattle.heard.specs.Heard.{isHeard, withPlace, someAbove}
 use Rattle.arrival.specs.declared.Arrived.the-variants.{Taken, Refused}
 use Rattle.arrival.specs.Arriving.{answerLength, storeLength, withBlock, place, foreign, stateTests, ownTests, arrivalTests, arrived, storeAfter}
 
 pub message-numbered : (message : List ℕ) → T (numbered (messageTests message))
-unfolding messageTests fieldTests numbered
+unfolding messageTests headerTests fieldTests numbered
 message-numbered message = tt
 
 module _ (job : Job) (points : List ℕ) (heard : ℕ) (store message : List ℕ) where
@@ -90,7 +91,7 @@ pub host-low : (message : List ℕ) → first (messageTests message) ≡ 0 → 1
 unfolding fieldTests hostTest
 host-low message e =
     let h = headerOf message in
-    let kind = first-clear (kindTest h) 15 _ (readable message e .fields) in
+    let kind = first-clear (kindTest h) 15 _ (readable message e .head .fields) in
     let number = first-clear (noModulus (h .modulus)) 0 _ (kind .1) in
     inside-low 1 64 _ (first-clear (hostTest h) 11 _ (number .1) .0)
 

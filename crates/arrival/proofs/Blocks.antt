@@ -8,7 +8,8 @@ use native.Mathlib.Omega.{arith}
 use lib.ListN.{length, take, drop, length-drop, drop-of-length-le}
 use lib.Seq.{length-take-le, drop-drop}
 use Rattle.elements.specs.Bytes.{elementsOf, common}
-use Rattle.message.specs.Format.{headerOf, elementCount, elements}
+use Rattle.header.specs.Header.{headerOf, elementCount}
+use Rattle.message.specs.Format.{elements}
 use Rattle.message.proofs.Parts.{Rest, read-part}
 use Rattle.arrival.specs.Arriving.{withBlock}
 

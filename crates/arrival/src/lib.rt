@@ -5,10 +5,11 @@ ghost use Prim.Native.Nat.{ℕ, _+_, _*_, _≤_};
 ghost use lib.ListN.{length};
 ghost use Rattle.refusal.specs.Chain.{first};
 ghost use Rattle.plan.specs.Planning.{blockRows, blockColumns};
-ghost use Rattle.message.specs.Format.{headerOf, elements, elementCount};
+ghost use Rattle.header.specs.Header.{headerOf, elementCount};
+ghost use Rattle.message.specs.Format.{elements};
 ghost use Rattle.arrival.specs.Arriving.{answerLength, withBlock, foreign, stateTests, ownTests, arrived, storeAfter};
-use message::Header;
-use message::Reading;
+use header::Header;
+use header::Reading;
 use plan::Job;
 use plan::Planned;
 use refusal::either;
@@ -19,10 +20,8 @@ pub enum Arrived {
     Refused(u32),
 }
 
-// The kind of an answer's message, and how many bytes stand before its elements.
+// The kind of an answer's message.
 const ANSWER: u32 = 3;
-
-const HEADER_BYTES: usize = 16;
 
 // Kind not 3, or job number, modulus, rows or columns not this job's.
 fn foreign_test(job: Job, rows: u32, columns: u32, h: Header) -> bool
@@ -76,7 +75,7 @@ fn put_block(place: usize, size: usize, message: &[u8], store: &mut [u32])
 {
     let start = place * size;
     let end = start + size;
-    elements::read_elements(&message[HEADER_BYTES..], &mut store[start..end]);
+    elements::read_elements(&message[header::HEADER_BYTES..], &mut store[start..end]);
 }
 
 // Takes an answer's message: its elements are written over its host's block of the store, and its host counts as heard; or it

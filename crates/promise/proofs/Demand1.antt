@@ -20,7 +20,8 @@ use Rattle.plan.specs.Planning.{numberOf as Planning·numberOf}
 use Rattle.plan.proofs.Then.{plan-numbered}
 use Rattle.share.specs.Sharing.{ownTests, shareTests, shareAfter}
 use Rattle.product.specs.Product.{productTests, productAfter}
-use Rattle.message.specs.Format.{fieldTests, writeTests, messageTests, readTests, written, readInto}
+use Rattle.header.specs.Header.{headerTests, fieldTests}
+use Rattle.message.specs.Format.{writeTests, messageTests, readTests, written, readInto}
 use Rattle.message.proofs.Answers.{read-number}
 use Rattle.arrival.specs.declared.Arrived.the-variants.{Taken}
 use Rattle.arrival.specs.declared.Arrived.the-variants.{Refused as Arrived·Refused}
@@ -92,7 +93,7 @@ after-plan : (job : Job) (points : List ℕ) (rows : List Row) → T (numbered r
 after-plan job points rows t = judged _ (numbered-append (planTests job points) rows (plan-numbered job points) t)
 
 pub demand-1 : Demand1
-unfolding shareTests ownTests shareAfter productTests productAfter fieldTests writeTests messageTests readTests written readInto stateTests Arriving·ownTests arrivalTests storeAfter decodeTests tableAfter numbered
+unfolding shareTests ownTests shareAfter productTests productAfter fieldTests writeTests messageTests headerTests readTests written readInto stateTests Arriving·ownTests arrivalTests storeAfter decodeTests tableAfter numbered
 demand-1 = record {
   plan = λ job points. subst (Judged (planTests job points)) (sym (planned-number job points)) (judged (planTests job points) (plan-numbered job points));
   share = λ m job points host xs ms out. (after-plan job points _ tt, leaves _ _ _ refl);

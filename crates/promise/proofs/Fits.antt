@@ -26,7 +26,8 @@ use Rattle.plan.proofs.Then.{plan-numbered}
 use Rattle.field.specs.Modulus.{modulus as Modulus·modulus}
 use Rattle.elements.proofs.Words.{length-elements}
 use Rattle.message.proofs.Fields.{readable}
-use Rattle.message.specs.Format.{headerOf, elementCount, elements, elementTest, fieldTests, messageTests}
+use Rattle.header.specs.Header.{headerTests, headerOf, elementCount, fieldTests}
+use Rattle.message.specs.Format.{elements, elementTest, messageTests}
 use Rattle.heard.specs.Heard.{isHeard, someAbove}
 use Rattle.arrival.proofs.Answers.{message-numbered}
 use Rattle.arrival.specs.Arriving.{answerLength, storeLength, place, foreign, stateTests, ownTests, arrivalTests}
@@ -55,7 +56,7 @@ module _ (x : Task) (ok : Accepted x) (s : State) (room : length (s .store) ≡ 
   rest = stateTests (x .numbers) (s .heard) (length (s .store)) ++ (messageTests message ++ ownTests (x .numbers) (s .heard) message)
 
   left-is : except 21 (except 23 rest) ≡ left
-  unfolding rest left core others stateTests ownTests messageTests fieldTests except
+  unfolding rest left core others stateTests ownTests messageTests headerTests fieldTests except
   left-is = refl
 
   pub fit-core : fit x s message ≡ eqb (first (core x message)) 0

@@ -25,8 +25,9 @@ use Rattle.refusal.specs.Chain.{Row, first}
 use Rattle.refusal.proofs.Chains.{first-none, first-miss, first-clear, first-append, answer-done}
 use Rattle.plan.specs.Planning.{prime, blockRows, blockColumns, neededOf}
 use Rattle.plan.proofs.Then.{then-own}
-use Rattle.message.specs.declared.Header.{Header}
-use Rattle.message.specs.Format.{messageOf, headerOf, elements, messageTests}
+use Rattle.header.specs.declared.Header.{Header}
+use Rattle.header.specs.Header.{headerOf}
+use Rattle.message.specs.Format.{messageOf, elements, messageTests}
 use Rattle.message.specs.RoundTrips.{ReadsBack}
 use Rattle.message.proofs.RoundTrips.{reads-back}
 use Rattle.heard.specs.Heard.{isHeard, someAbove}

@@ -17,11 +17,12 @@ use Rattle.field.specs.Modulus.{modulus}
 use Rattle.plan.specs.declared.Job.{Job}
 use Rattle.plan.specs.Planning.{planTests, planned}
 use Rattle.plan.specs.Planning.{numberOf as Planning·numberOf}
-use Rattle.share.specs.declared.Matrix.{Matrix}
+use Rattle.weights.specs.declared.Matrix.{Matrix}
 use Rattle.share.specs.Sharing.{hostShare, shareTests, shareAfter}
 use Rattle.product.specs.Product.{productOf, productTests, productAfter}
-use Rattle.message.specs.declared.Header.{Header}
-use Rattle.message.specs.Format.{messageOf, headerOf, elementCount, elements, writeTests, readTests, written, readAs, readInto, numberOf}
+use Rattle.header.specs.declared.Header.{Header}
+use Rattle.header.specs.Header.{headerOf, elementCount}
+use Rattle.message.specs.Format.{messageOf, elements, writeTests, readTests, written, readAs, readInto, numberOf}
 use Rattle.heard.specs.Heard.{withPlace}
 use Rattle.arrival.specs.Arriving.{answerLength, withBlock, place, arrivalTests, arrived, storeAfter, heardAfter}
 use Rattle.arrival.specs.Arriving.{numberOf as Arriving·numberOf}

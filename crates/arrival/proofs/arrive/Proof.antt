@@ -9,9 +9,10 @@ use Rattle.refusal.specs.Chain.{first}
 use Rattle.plan.specs.declared.Plan.{Plan}
 use Rattle.plan.specs.Planning.{blockRows, blockColumns, planOf, planTests}
 use Rattle.plan.proofs.Facts.{Fits, facts, planned-facts}
-use Rattle.message.specs.declared.Header.{Header}
-use Rattle.message.specs.Format.{headerOf, elements, messageTests}
-use Rattle.message.proofs.Answers.{examined-done, examined-refused}
+use Rattle.header.specs.declared.Header.{Header}
+use Rattle.header.specs.Header.{headerOf}
+use Rattle.message.specs.Format.{elements, messageTests, examined}
+use Rattle.header.proofs.Answers.{done-told, refused-told}
 use Rattle.heard.specs.Heard.{withPlace}
 use Rattle.heard.proofs.Bits.{bit-of, with-below}
 use Rattle.arrival.specs.Arriving.{answerLength, storeLength, place, withBlock, stateTests, ownTests, arrivalTests}
@@ -102,7 +103,8 @@ begin r = start (plan-by r)
 
 -- the message was looked over and not refused
 read : (r : tie.After-reading2) → (first (messageTests (begin r .args .message .now)) ≡ 0) × (r .reading2 .given .0 .0 ≡ headerOf (begin r .args .message .now))
-read r = examined-done (begin r .args .message .now) (sym (r .before .before .examine .ensures) ∙ r .reading2 .given .1)
+unfolding examined
+read r = done-told (headerOf (begin r .args .message .now)) (first (messageTests (begin r .args .message .now))) (sym (r .before .before .examine .ensures) ∙ r .reading2 .given .1)
 
 low : (r : tie.After-reading2) → 1 ≤ r .reading2 .given .0 .0 .host
 low r =
@@ -209,12 +211,13 @@ returns-3 c =
     refused (a .job) (a .points .now) (a .heard) (a .store .now) (a .message .now) _ (told .1) (told .0)
 
 returns-4 : tie.Need-returns-4
+unfolding examined
 returns-4 c =
     let r = c .before in
     let x = r .before .before in
     let p = plan-of x in
     let a = start p .args in
-    let told = examined-refused (a .message .now) (sym (x .examine .ensures) ∙ r .reading .given .1) in
+    let told = refused-told (headerOf (a .message .now)) (first (messageTests (a .message .now))) (sym (x .examine .ensures) ∙ r .reading .given .1) in
     refused (a .job) (a .points .now) (a .heard) (a .store .now) (a .message .now) _ (told .1)
     (told-message (a .job) (a .points .now) (a .heard) (a .store .now) (a .message .now) (accepted p .0) (state-clear x) _ (told .1) (told .0))
 
