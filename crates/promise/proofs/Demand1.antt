@@ -103,8 +103,7 @@ demand-1 = record {
       let is = read-number message (length out) in
       (subst (Judged (readTests message (length out))) (sym is) (judged _ tt), leaves _ _ _ is);
   arrival = λ job points heard store message.
-      let is = arrived-number job points heard store message in
-      (
+      let is = arrived-number job points heard store message in (
         subst (Judged (arrivalTests job points heard (length store) message)) (sym is) (after-plan job points _ tt),
         leaves _ _ _ is,
         heard-done job points heard store message,

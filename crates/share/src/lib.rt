@@ -1,12 +1,13 @@
 // Sharing: the masked block of a matrix that a host gets.
 ghost use mathlib.Core.Path.{_≡_};
+ghost use mathlib.Core.List.{_++_};
 ghost use Prim.Native.Nat.{_+_, _^_, _%_, _<_, _≤_};
-ghost use lib.ListN.{length, getD};
+ghost use lib.ListN.{length, getD, drop};
 ghost use Rattle.algebra.specs.Lists.{tab, grid, AllBelow};
 ghost use Rattle.refusal.specs.Chain.{first};
 ghost use Rattle.field.specs.Modulus.{prime};
 ghost use Rattle.layout.specs.Exponents.{exponents};
-ghost use Rattle.weights.specs.Weights.{Small, weightCount};
+ghost use Rattle.weights.specs.Weights.{Small, weightCount, weightsOf};
 ghost use Rattle.share.specs.Sharing.{
   shareOf,
   blockLength,
@@ -69,6 +70,29 @@ fn own_refusal(
         return refusal::MASK;
     }
     0
+}
+
+// The weights of a side: those of its blocks, row by row, and then those of its masks.
+fn side_weights(plan: Plan, s: Side, x: u32, weights: &mut [u32])
+    requires { ⌜ Small s × weightCount s ≤ length (now weights) ⌝ }
+    ensures { λ _. ⌜ now (weights .exit)
+        ≡ weightsOf (prime (plan .modulus)) (exponents (plan .layout) (plan .parameters)) s x
+        ++ drop (weightCount s) (now (weights .entry)) ⌝ }
+{
+    let blocks = s.blocks;
+    let masks = s.masks;
+    let down = s.down;
+    let across = s.across;
+    let mut k = 0;
+    while k < down {
+        let start = k * across;
+        let end = start + across;
+        weights::weigh(plan, blocks, k as u8, x, &mut weights[start..end]);
+        k += 1;
+    }
+    let start = down * across;
+    let end = start + s.count;
+    weights::weigh(plan, masks, 0, x, &mut weights[start..end]);
 }
 
 // Adds the blocks' part of row i of the share to the sums: each row of blocks has one row of the matrix in it.
@@ -173,7 +197,7 @@ fn share_planned(plan: Plan, s: Side, x: u32, xs: &[u32], masks: &[u32], out: &m
 {
     let modulus = plan.modulus;
     let mut weights = [0u32; MOST_WEIGHTS];
-    weights::side_weights(plan, s, x, &mut weights);
+    side_weights(plan, s, x, &mut weights);
     share_rows(modulus, s, &weights, xs, masks, out);
 }
 

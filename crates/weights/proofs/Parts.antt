@@ -2,21 +2,26 @@
 --
 --   Part start count room  some elements of 4 bytes, from a place on, in a list that has room for so many
 --   part                   they lie in it, and their places fit 64 bits
---   part-length, part-below  how many they are, as the part of a slice has them
+--   part-length            how many they are, as the part of a slice has them
+--   weighed-part           the weights that are written over them
 --   row-part, masks-part   the weights of a row of blocks, and of the masks
 --   weights-end            the masks' weights are written behind those of the blocks
 use mathlib.Core.Path.{_≡_, sym, ap, ap₂, _∙_}
 use mathlib.Core.List.{List, _++_, append-assoc}
-use Prim.Native.Nat.{ℕ, _+_, _-_, _*_, _^_, _<_, _≤_}
+use Prim.Native.Nat.{ℕ, _+_, _-_, _*_, _^_, _%_, _<_, _≤_, min}
 use native.Mathlib.Nat.{mul-le-mul, add-sub-cancel-left}
 use native.Mathlib.Omega.{arith}
 use mir.Syntax.{w64}
 use mir.Val.{Fits}
 use lib.ListN.{length, take, drop, length-drop}
 use lib.Seq.{length-take-le, take-at, drop-at, drop-drop}
+use Rattle.algebra.specs.Lists.{tab}
+use Rattle.algebra.proofs.Fronts.{front-all}
 use Rattle.algebra.proofs.Orders.{row-end}
+use Rattle.layout.specs.declared.Series.{Series}
+use Rattle.layout.specs.Exponents.{Exponents, term}
 use Rattle.weights.specs.declared.Side.{Side}
-use Rattle.weights.specs.Weights.{Small, weightCount}
+use Rattle.weights.specs.Weights.{Small, weightCount, weighed}
 
 pub record Part (start count room : ℕ) : Type 0 where
   pub start-fits : Fits w64 start
@@ -37,9 +42,15 @@ part start count room h small = record {
 pub part-length : (xs : List ℕ) (start count : ℕ) → start + count ≤ length xs → length (take (start + count - start) (drop start xs)) ≡ count
 part-length xs start count h = rw add-sub-cancel-left (length-take-le count (drop start xs) (omega (arith, length-drop start xs)))
 
-pub part-below : (xs : List ℕ) (start count most : ℕ) → start + count ≤ length xs → count < most
-    → length (take (start + count - start) (drop start xs)) < most
-part-below xs start count most h small = rw (part-length xs start count h) small
+pub weighed-part : (q : ℕ) (e : Exponents) (series : Series) (row x : ℕ) (xs : List ℕ) (start count : ℕ) → start + count ≤ length xs → count ≤ 256
+    → weighed q e series row x (take (start + count - start) (drop start xs)) ≡ tab (λ j. x ^ term e series row j % q) count
+unfolding weighed
+weighed-part q e series row x xs start count h small =
+    let part = take (start + count - start) (drop start xs) in
+    let size : length part ≡ count = part-length xs start count h in
+    let all : min (length part) 256 ≡ count = omega arith in
+    ap (λ (n : ℕ). tab (λ j. x ^ term e series row j % q) n ++ drop n part) all
+    ∙ front-all (λ j. x ^ term e series row j % q) part count (omega arith)
 
 module _ (s : Side) (small : Small s) (room : ℕ) (enough : weightCount s ≤ room) where
   few : s .down * s .across ≤ 64

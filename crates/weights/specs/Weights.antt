@@ -4,11 +4,15 @@
 --                             series of their exponents
 --   Small s                == the limits that a side of an accepted job keeps
 --   weightCount s          == how many weights a side has
+--   weighed q e series row x out == a list with the weights of a row of blocks, or of the masks, written over it: the point x to
+--                             each exponent, modulo q, of at most 256 columns
 --   weightsOf q e s x      == the weights at the point x: the point to each exponent, modulo q; of the blocks, row by row, and
 --                             then of the masks
 use mathlib.Core.List.{List, _++_}
-use Prim.Native.Nat.{ℕ, _+_, _*_, _^_, _%_, _≤_}
+use Prim.Native.Nat.{ℕ, _+_, _*_, _^_, _%_, _≤_, min}
+use lib.ListN.{length, drop}
 use Rattle.algebra.specs.Lists.{tab, grid}
+use Rattle.layout.specs.declared.Series.{Series}
 use Rattle.layout.specs.declared.Series.the-variants.{BlocksA, MasksA, BlocksB, MasksB}
 use Rattle.layout.specs.Exponents.{Exponents, term}
 use Rattle.plan.specs.declared.Plan.{Plan}
@@ -47,6 +51,11 @@ pub record Small (s : Side) : Type 0 where
 
 unfoldable pub weightCount : Side → ℕ
 weightCount s = s .down * s .across + s .count
+
+unfoldable pub weighed : ℕ → Exponents → Series → ℕ → ℕ → List ℕ → List ℕ
+weighed q e series row x out =
+    let n = min (length out) 256 in
+    tab (λ j. x ^ term e series row j % q) n ++ drop n out
 
 unfoldable pub weightsOf : ℕ → Exponents → Side → ℕ → List ℕ
 weightsOf q e s x =

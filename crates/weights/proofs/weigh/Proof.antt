@@ -1,18 +1,19 @@
 -- `weights::weigh` meets its contract.
 use mathlib.Core.Path.{_≡_, refl, ap, _∙_}
 use mathlib.Core.List.{_++_}
-use Prim.Native.Nat.{ℕ, _-_, _^_, _%_, _≤_}
+use Prim.Native.Nat.{ℕ, _-_, _^_, _%_, _≤_, min}
 use native.Mathlib.Omega.{arith}
 use borrow.Author.Needs.{needs}
 use lib.ListN.{length, drop, set, length-set}
 use Rattle.algebra.specs.Lists.{tab}
-use Rattle.algebra.proofs.Fronts.{front-none, front-more, front-all}
+use Rattle.algebra.proofs.Fronts.{front-none, front-more}
 use Rattle.field.specs.declared.Modulus.{Modulus}
 use Rattle.field.specs.Modulus.{prime}
 use Rattle.layout.specs.declared.Layout.{Layout}
 use Rattle.layout.specs.declared.Parameters.{Parameters}
 use Rattle.layout.specs.declared.Series.{Series}
 use Rattle.layout.specs.Exponents.{exponents, term}
+use Rattle.weights.specs.Weights.{weighed}
 use Rattle.weights.proofs.weigh.Statement.{statement}
 use Rattle.weights.proofs.weigh.Tie as tie
 
@@ -21,14 +22,17 @@ abbrev weight : Modulus → Layout → Parameters → Series → ℕ → ℕ →
 weight modulus layout g series row x j = x ^ term (exponents layout g) series row j % prime modulus
 
 abbrev Inv-loop : tie.InvT-loop
-Inv-loop series row x out₀ modulus layout g j₀ out j =
-    record { is : out ≡ tab (weight modulus layout g series row x) j ++ drop j out₀; short : j ≤ length out₀; same : length out ≡ length out₀ }
+Inv-loop series row x out₀ modulus layout g n j₀ out j =
+    record { is : out ≡ tab (weight modulus layout g series row x) j ++ drop j out₀; short : j ≤ n; same : length out ≡ length out₀ }
 
 abbrev μ-loop : tie.MeasureT-loop
-μ-loop series row x out₀ modulus layout g j₀ out j = length out₀ - j
+μ-loop series row x out₀ modulus layout g n j₀ out j = n - j
+
+least-requires : tie.Need-least-requires Inv-loop μ-loop
+least-requires c κs = search needs
 
 loop-holds : tie.Need-loop-holds Inv-loop μ-loop
-loop-holds c = record { is = front-none _ (c .before .before .args .out .now); short = omega arith; same = refl }
+loop-holds c = record { is = front-none _ (c .before .before .before .args .out .now); short = omega arith; same = refl }
 
 cast-exponent-of : tie.Need-cast-exponent-of Inv-loop μ-loop
 cast-exponent-of c = omega arith
@@ -54,7 +58,7 @@ loop-less c = omega arith
 loop-again : tie.Need-loop-again Inv-loop μ-loop
 loop-again c =
     let k = c .before .before .before in
-    let a = k .before .before .before .args in
+    let a = k .before .before .before .before .args in
     let l = k .loop in
     let f = weight (a .plan .modulus) (a .plan .layout) (a .plan .parameters) (a .series) (a .row) (a .x) in
     let value : c .power .result ≡ f (l .j) = c .power .ensures ∙ ap (λ (n : ℕ). a .x ^ n % prime (a .plan .modulus)) (c .before .exponent-of .ensures) in
@@ -68,14 +72,13 @@ same-length : tie.Need-same-length Inv-loop μ-loop
 same-length c = c .before .loop .inv .same
 
 returns : tie.Need-returns Inv-loop μ-loop
+unfolding weighed
 returns c =
     let l = c .before in
-    let a = l .before .before .before .args in
+    let a = l .before .before .before .before .args in
     let f = weight (a .plan .modulus) (a .plan .layout) (a .plan .parameters) (a .series) (a .row) (a .x) in
-    let all : l .loop .j ≡ length (a .out .now) = omega arith in
-    l .loop .inv .is
-    ∙ ap (λ (k : ℕ). tab f k ++ drop k (a .out .now)) all
-    ∙ front-all f (a .out .now) (length (a .out .now)) (omega arith)
+    let all : l .loop .j ≡ min (length (a .out .now)) 256 = omega (arith, l .before .least .ensures) in
+    l .loop .inv .is ∙ ap (λ (k : ℕ). tab f k ++ drop k (a .out .now)) all
 
 pub weigh-spec : {M : Type 1} → statement M
 weigh-spec =
@@ -83,6 +86,7 @@ weigh-spec =
     (tie.spec
     Inv-loop
     μ-loop
+    least-requires
     loop-holds
     cast-exponent-of
     exponent-of-requires

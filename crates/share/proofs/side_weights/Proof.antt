@@ -1,20 +1,21 @@
--- `weights::side_weights` meets its contract.
+-- `share::side_weights` meets its contract.
 use mathlib.Core.Path.{_≡_, refl, sym, ap, _∙_, subst}
 use mathlib.Core.List.{_++_}
 use Prim.Native.Nat.{ℕ, _-_, _*_, _%_, _^_, _≤_}
 use native.Mathlib.Nat.{add-sub-cancel-left}
 use native.Mathlib.Omega.{arith}
 use lib.ListN.{length, drop}
-use Rattle.algebra.specs.Lists.{tab, grid}
+use borrow.Author.Needs.{needs}
+use Rattle.algebra.specs.Lists.{grid}
 use Rattle.algebra.proofs.Grids.{length-grid, rows-none, rows-more}
 use Rattle.field.specs.Modulus.{prime}
 use Rattle.layout.specs.declared.Series.{Series}
 use Rattle.layout.specs.Exponents.{exponents, term}
 use Rattle.plan.specs.declared.Plan.{Plan}
 use Rattle.weights.specs.Weights.{weightCount, weightsOf}
-use Rattle.weights.proofs.Parts.{Part, part-length, part-below, row-part, masks-part, weights-end}
-use Rattle.weights.proofs.side_weights.Statement.{statement}
-use Rattle.weights.proofs.side_weights.Tie as tie
+use Rattle.weights.proofs.Parts.{Part, weighed-part, row-part, masks-part, weights-end}
+use Rattle.share.proofs.side_weights.Statement.{statement}
+use Rattle.share.proofs.side_weights.Tie as tie
 
 -- the point to an exponent
 abbrev weight : Plan → Series → ℕ → ℕ → ℕ → ℕ
@@ -63,9 +64,7 @@ part-weigh-end : tie.Need-part-weigh-end Inv-loop μ-loop
 part-weigh-end c = row c .within
 
 weigh-requires : tie.Need-weigh-requires Inv-loop μ-loop
-weigh-requires c κs =
-    let small = c .before .before .before .before .pre .0 in
-    part-below _ _ _ _ (row (c .before) .within) (omega arith)
+weigh-requires c κs = search needs
 
 add-k : tie.Need-add-k Inv-loop μ-loop
 add-k c = omega arith
@@ -77,11 +76,11 @@ loop-again : tie.Need-loop-again Inv-loop μ-loop
 loop-again c =
     let l = c .before .before .before .before in
     let a = l .before .before .before .args in
-    let size = part-length _ _ _ (row l .within) in
+    let small = l .before .before .before .pre .0 in
     record {
       is = rw add-sub-cancel-left
           (rows-more (weight (a .plan) (a .s .blocks) (a .x)) (a .weights .now) (l .before .loop .weights) _ (a .s .across) (l .before .loop .k) (l .before .loop .inv .is)
-          (c .before .before .weigh .ensures ∙ ap (tab (weight (a .plan) (a .s .blocks) (a .x) (l .before .loop .k))) size));
+          (c .before .before .weigh .ensures ∙ weighed-part _ _ _ _ _ _ _ _ (row l .within) (omega (arith, small .across))));
       short = omega arith;
       same = omega arith;
     }
@@ -112,9 +111,7 @@ part-weigh-end-2 : tie.Need-part-weigh-end-2 Inv-loop μ-loop
 part-weigh-end-2 c = masks (c .before) .within
 
 weigh-requires-2 : tie.Need-weigh-requires-2 Inv-loop μ-loop
-weigh-requires-2 c κs =
-    let small = c .before .before .before .before .before .pre .0 in
-    part-below _ _ _ _ (masks (c .before .before) .within) (omega arith)
+weigh-requires-2 c κs = search needs
 
 same-length : tie.Need-same-length Inv-loop μ-loop
 same-length c = omega arith
@@ -130,7 +127,7 @@ returns c =
     weights-end (grid blocks (a .s .down) (a .s .across)) _ (a .weights .now) (l .weights) _ (a .s .down * a .s .across) (a .s .count)
     (length-grid blocks (a .s .down) (a .s .across))
     (l .inv .is ∙ ap (λ (k : ℕ). grid blocks k (a .s .across) ++ drop (k * a .s .across) (a .weights .now)) all)
-    (c .before .before .weigh2 .ensures ∙ ap (tab (weight (a .plan) (a .s .masks) (a .x) 0)) (part-length _ _ _ (masks end .within)))
+    (c .before .before .weigh2 .ensures ∙ weighed-part _ _ _ _ _ _ _ _ (masks end .within) (omega (arith, end .before .before .before .pre .0 .count)))
 
 pub side-weights-spec : {M : Type 1} → statement M
 side-weights-spec =
