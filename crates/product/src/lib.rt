@@ -8,13 +8,19 @@ ghost use Rattle.refusal.specs.Chain.{first};
 ghost use Rattle.field.specs.Modulus.{prime};
 ghost use Rattle.rows.specs.Combination.{combination};
 ghost use Rattle.product.specs.Product.{productOf, lengthTest, productTests, productAfter};
+ghost use Rattle.product.specs.Rows.{atOnce};
 use field::Modulus;
 use field::Named;
 use refusal::either;
+use words::least;
 use words::wide_product;
 
 // The most elements that a block has, and so the most columns.
 const MOST_COLUMNS: usize = 4096;
+
+// The largest prime and the most columns of A whose rows are packed.
+const MOST_PACKED_PRIME: u32 = 257;
+const MOST_PACKED: usize = 127;
 
 // A buffer is not of exact length.
 fn length_test(rows: u32, inner: u32, columns: u32, a: usize, b: usize, out: usize) -> bool
@@ -53,7 +59,61 @@ fn product_row(modulus: Modulus, row: &[u32], b: &[u32], sums: &mut [u64], out: 
     rows::reduce_row(modulus, sums, out);
 }
 
-// The product of two shares of the right lengths, row by row.
+// How many rows of the product are made at once: two where the sums of packed rows keep their halves apart.
+fn at_once(modulus: Modulus, inner: usize) -> usize
+    ensures { λ r. ⌜ r ≡ atOnce (prime modulus) inner ⌝ }
+{
+    if either(MOST_PACKED_PRIME < field::prime_of(modulus), MOST_PACKED < inner) {
+        1
+    } else {
+        2
+    }
+}
+
+// Two rows of the product, made as one: the rows of A are packed, and the sums taken apart.
+fn two_rows(
+    modulus: Modulus,
+    inner: usize,
+    pair: &[u32],
+    b: &[u32],
+    sums: &mut [u64],
+    out: &mut [u32],
+)
+    requires { ⌜ AllBelow (prime modulus) (now pair)
+        × AllBelow (prime modulus) (now b)
+        × atOnce (prime modulus) inner ≡ 2
+        × length (now pair) ≡ 2 * inner
+        × length (now out) ≡ 2 * length (now sums) ⌝ }
+    ensures { λ _. ⌜ now (out .exit) ≡ productOf (prime modulus) 2 inner (length (now (sums .entry))) (now (pair .entry)) (now (b .entry)) ⌝ }
+{
+    let columns = sums.len();
+    let mut weights = [0u32; MOST_PACKED];
+    pairs::pack(&pair[..inner], &pair[inner..], &mut weights[..inner]);
+    rows::clear(sums);
+    rows::add_rows(sums, &weights[..inner], b, columns);
+    pairs::unpack(modulus, false, sums, &mut out[..columns]);
+    pairs::unpack(modulus, true, sums, &mut out[columns..]);
+}
+
+// A few rows of the product: as many as are made at once, or less.
+fn few_rows(
+    modulus: Modulus,
+    count: usize,
+    inner: usize,
+    part: &[u32],
+    b: &[u32],
+    sums: &mut [u64],
+    out: &mut [u32],
+)
+{
+    if count == 2 {
+        two_rows(modulus, inner, part, b, sums, out);
+    } else {
+        product_row(modulus, part, b, sums, out);
+    }
+}
+
+// The product of two shares of the right lengths, a few rows at a time.
 fn multiply_rows(
     modulus: Modulus,
     rows: usize,
@@ -74,20 +134,24 @@ fn multiply_rows(
     ensures { λ _. ⌜ now (out .exit) ≡ productOf (prime modulus) rows inner columns (now (a .entry)) (now (b .entry)) ⌝ }
 {
     let mut sums = [0u64; MOST_COLUMNS];
+    let step = at_once(modulus, inner);
     let mut i = 0;
     while i < rows {
+        let n = least(step, rows - i);
         let left = i * inner;
-        let left_end = left + inner;
+        let left_end = left + n * inner;
         let start = i * columns;
-        let end = start + columns;
-        product_row(
+        let end = start + n * columns;
+        few_rows(
             modulus,
+            n,
+            inner,
             &a[left..left_end],
             b,
             &mut sums[..columns],
             &mut out[start..end],
         );
-        i += 1;
+        i += n;
     }
 }
 
