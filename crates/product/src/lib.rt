@@ -1,14 +1,13 @@
 // The host's block product: A share times B share, modulo the prime.
 ghost use mathlib.Core.Path.{_≡_};
 ghost use mathlib.Core.Bool.{not, _||_};
-ghost use Prim.Native.Nat.{_*_, _%_, _≤_};
+ghost use Prim.Native.Nat.{_*_, _≤_};
 ghost use lib.ListN.{length};
-ghost use Rattle.algebra.specs.Lists.{AllBelow, allBelow, tab};
+ghost use Rattle.algebra.specs.Lists.{AllBelow, allBelow};
 ghost use Rattle.refusal.specs.Chain.{first};
 ghost use Rattle.field.specs.Modulus.{prime};
-ghost use Rattle.rows.specs.Combination.{combination};
 ghost use Rattle.product.specs.Product.{productOf, lengthTest, productTests, productAfter};
-ghost use Rattle.product.specs.Rows.{atOnce};
+ghost use Rattle.product.specs.Rows.{AtOnce};
 use field::Modulus;
 use field::Named;
 use refusal::either;
@@ -18,8 +17,10 @@ use words::wide_product;
 // The most elements that a block has, and so the most columns.
 const MOST_COLUMNS: usize = 4096;
 
-// The largest prime and the most columns of A whose rows are packed.
+// The largest prime whose elements are packed.
 const MOST_PACKED_PRIME: u32 = 257;
+
+// The most elements of a row that is packed.
 const MOST_PACKED: usize = 127;
 
 // A buffer is not of exact length.
@@ -52,25 +53,27 @@ fn product_row(modulus: Modulus, row: &[u32], b: &[u32], sums: &mut [u64], out: 
         × length (now row) ≤ 4096
         × length (now sums) ≡ length (now out) ⌝ }
     ensures { λ _. ⌜ now (out .exit)
-        ≡ tab (λ j. combination (now (row .entry)) (now (b .entry)) (length (now (out .entry))) j % prime modulus) (length (now (out .entry))) ⌝ }
+        ≡ productOf (prime modulus) 1 (length (now (row .entry))) (length (now (out .entry))) (now (row .entry)) (now (b .entry)) ⌝ }
 {
     rows::clear(sums);
     rows::add_rows(sums, row, b, out.len());
     rows::reduce_row(modulus, sums, out);
 }
 
-// How many rows of the product are made at once: two where the sums of packed rows keep their halves apart.
+// How many rows of the product are made at once: two where they have room when packed.
 fn at_once(modulus: Modulus, inner: usize) -> usize
-    ensures { λ r. ⌜ r ≡ atOnce (prime modulus) inner ⌝ }
+    ensures { λ r. ⌜ AtOnce (prime modulus) inner r ⌝ }
 {
-    if either(MOST_PACKED_PRIME < field::prime_of(modulus), MOST_PACKED < inner) {
-        1
-    } else {
-        2
+    if MOST_PACKED_PRIME < field::prime_of(modulus) {
+        return 1;
     }
+    if MOST_PACKED < inner {
+        return 1;
+    }
+    2
 }
 
-// Two rows of the product, made as one: the rows of A are packed, and the sums taken apart.
+// Two rows of the product at once: A's rows are packed, and the sums taken apart.
 fn two_rows(
     modulus: Modulus,
     inner: usize,
@@ -79,12 +82,14 @@ fn two_rows(
     sums: &mut [u64],
     out: &mut [u32],
 )
-    requires { ⌜ AllBelow (prime modulus) (now pair)
+    requires { ⌜ prime modulus ≤ 257
+        × inner ≤ 127
+        × AllBelow (prime modulus) (now pair)
         × AllBelow (prime modulus) (now b)
-        × atOnce (prime modulus) inner ≡ 2
         × length (now pair) ≡ 2 * inner
         × length (now out) ≡ 2 * length (now sums) ⌝ }
-    ensures { λ _. ⌜ now (out .exit) ≡ productOf (prime modulus) 2 inner (length (now (sums .entry))) (now (pair .entry)) (now (b .entry)) ⌝ }
+    ensures { λ _. ⌜ now (out .exit)
+        ≡ productOf (prime modulus) 2 inner (length (now (sums .entry))) (now (pair .entry)) (now (b .entry)) ⌝ }
 {
     let columns = sums.len();
     let mut weights = [0u32; MOST_PACKED];
@@ -95,7 +100,7 @@ fn two_rows(
     pairs::unpack(modulus, true, sums, &mut out[columns..]);
 }
 
-// A few rows of the product: as many as are made at once, or less.
+// One row of the product or two, as can be made at once.
 fn few_rows(
     modulus: Modulus,
     count: usize,
@@ -105,6 +110,14 @@ fn few_rows(
     sums: &mut [u64],
     out: &mut [u32],
 )
+    requires { ⌜ AtOnce (prime modulus) inner count
+        × AllBelow (prime modulus) (now part)
+        × AllBelow (prime modulus) (now b)
+        × inner ≤ 4096
+        × length (now part) ≡ count * inner
+        × length (now out) ≡ count * length (now sums) ⌝ }
+    ensures { λ _. ⌜ now (out .exit)
+        ≡ productOf (prime modulus) count inner (length (now (sums .entry))) (now (part .entry)) (now (b .entry)) ⌝ }
 {
     if count == 2 {
         two_rows(modulus, inner, part, b, sums, out);
