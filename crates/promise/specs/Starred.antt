@@ -7,11 +7,14 @@
 --   share m x y i  == what sharing leaves at host i of that job, for a matrix of the one element x and a mask of the one
 --                     element y; 99 stands in the output before, and would stay there if the call were refused
 --   answer i       == what the product leaves for host i, with A 5, its mask 7, B 4 and its mask 9
+--   decoded        == what decoding these answers leaves
+--   reading r      == a signed reading in whole numbers: its refusal number, and of a value 1 where it is below 0, and its size
 --   starred        == the table
 --   Right lines    == in each line the two are the same
 use mathlib.Core.Path.{_≡_}
 use mathlib.Core.List.{List, [], _∷_, _++_}
 use Prim.Native.Nat.{ℕ, suc, _<_}
+use lib.IntN.{pos, negsuc}
 use lib.ListN.{length, getD}
 use Rattle.algebra.specs.Lists.{tab}
 use Rattle.layout.specs.declared.Layout.the-variants.{First, Second}
@@ -24,6 +27,9 @@ use Rattle.product.specs.Product.{productAfter}
 use Rattle.weights.specs.declared.Matrix.{Matrix}
 use Rattle.weights.specs.declared.Matrix.the-variants.{A, B}
 use Rattle.share.specs.Sharing.{shareAfter}
+use Rattle.decode.specs.Decoding.{tableAfter}
+use Rattle.signed.specs.declared.Signed.{Signed}
+use Rattle.signed.specs.Signed.{signedAnswer}
 
 abbrev pub Line : Type 0
 Line = List ℕ × List ℕ
@@ -48,6 +54,15 @@ share m x y host = shareAfter m smallest (tab suc 3) host (x ∷ []) (y ∷ []) 
 unfoldable pub answer : ℕ → List ℕ
 answer host = productAfter 1 1 1 1 (share A 5 7 host) (share B 4 9 host) (99 ∷ [])
 
+-- all three hosts heard
+unfoldable pub decoded : List ℕ
+decoded = tableAfter smallest (tab suc 3) 7 (answer 1 ++ (answer 2 ++ answer 3)) (99 ∷ [])
+
+unfoldable pub reading : Signed → List ℕ
+reading (Signed.Value (pos n)) = 0 ∷ 0 ∷ n ∷ []
+reading (Signed.Value (negsuc n)) = 0 ∷ 1 ∷ suc n ∷ []
+reading (Signed.Refused n) = n ∷ []
+
 unfoldable pub jobWith : ℕ → ℕ → ℕ → ℕ → ℕ → ℕ → Job
 jobWith p m n xa xb hosts =
     record { modulus = 2; t = m; s = p; r = n; m = m; p = p; n = n; xa = xa; xb = xb; hosts = hosts; number = 0 }
@@ -62,6 +77,9 @@ starred =
     ∷ (share B 4 9 1 ++ (share B 4 9 2 ++ share B 4 9 3), 0 ∷ 9 ∷ 5 ∷ [])
     -- answers 0, 2, 0
     ∷ (answer 1 ++ (answer 2 ++ answer 3), 0 ∷ 2 ∷ 0 ∷ [])
+    -- decoded 7, signed -6
+    ∷ (decoded, 7 ∷ [])
+    ∷ (reading (signedAnswer 1 (getD decoded 0 0)), 0 ∷ 1 ∷ 6 ∷ [])
     -- with A = 6, mask 0 gives host 2 the same share 6
     ∷ (share A 6 0 2, 6 ∷ [])
     -- p, m, n, X_A = X_B: 2, 2, 3, 2 gives 23, layout 1
