@@ -1,0 +1,2 @@
+-- Laws for the proofs of `case_io`.
+pub mod Counts

@@ -1,0 +1,64 @@
+// Words and bytes of cases, from standard input and to standard output. A word is 4 bytes, big-endian.
+ghost use Rattle.io.specs.Counts.{Counts};
+use libc::STDIN_FILENO;
+use libc::STDOUT_FILENO;
+use words::least;
+
+// How many words are read or written at once, at most.
+const MOST_WORDS: usize = 16384;
+
+// What stands in an output before a call.
+pub const FILLING: u32 = 0xA5A5A5A5;
+
+// Reads that many bytes to the front of the buffer, or as many as it has room for and the input has; tells how many.
+pub fn read_bytes(count: usize, out: &mut [u8]) -> usize
+    ensures { λ r. ⌜ Counts r (now (out .exit)) ⌝ }
+{
+    let n = least(count, out.len());
+    io::read_full(STDIN_FILENO, &mut out[..n])
+}
+
+// Reads words in the same way, at most 16384.
+pub fn read_words(count: usize, out: &mut [u32]) -> usize
+    ensures { λ r. ⌜ Counts r (now (out .exit)) ⌝ }
+{
+    let mut bytes = io::large_buffer();
+    let most = least(least(count, out.len()), MOST_WORDS);
+    let n = read_bytes(4 * most, &mut bytes);
+    elements::read_elements(&bytes[..n], out);
+    least(n / 4, out.len())
+}
+
+// Writes words, at most 16384.
+pub fn put_words(words: &[u32]) {
+    let mut bytes = io::large_buffer();
+    let size = 4 * least(words.len(), MOST_WORDS);
+    elements::write_elements(words, &mut bytes);
+    io::write_all(STDOUT_FILENO, &bytes[..size]);
+}
+
+// Writes a number as a word.
+pub fn put_number(number: u32) {
+    put_words(&[number]);
+}
+
+// How many words there are up to the last that is not the filling.
+fn filled_words(out: &[u32]) -> usize
+    ensures { λ r. ⌜ Counts r (now (out .entry)) ⌝ }
+{
+    let mut n = out.len();
+    while 0 < n {
+        if out[n - 1] != FILLING {
+            return n;
+        }
+        n -= 1;
+    }
+    0
+}
+
+// Writes an output of elements: how many there are up to the last that is not the filling, and these; at most 16384.
+pub fn put_output(out: &[u32]) {
+    let n = least(filled_words(out), MOST_WORDS);
+    put_number(n as u32);
+    put_words(&out[..n]);
+}
