@@ -1,9 +1,9 @@
 -- Two rows of small numbers as one, and the halves of the sums that are made of it.
 -- A list reads as 0 past its end.
 --
---   place                   == what the second number of a pair counts
+--   place                   == what the second number of a pair counts: more than 127 products of numbers below 257 sum to
 --   pair a b                == a and b as one number, in 32 bits
---   packed first second out == the pairs of two rows, as many as have room; the rest of the output as it was
+--   packed rows out         == the pairs of two rows, the halves of a list, as many as have room; the rest of the output as it was
 --   half upper n            == the second number of the pair n, or the first
 --   halves upper sums       == the same of each sum
 use mathlib.Core.Bool.{Bool, cond}
@@ -18,10 +18,11 @@ place = 2 ^ 23
 abbrev pub pair : ℕ → ℕ → ℕ
 pair a b = (a + place * b) % 2 ^ 32
 
-unfoldable pub packed : List ℕ → List ℕ → List ℕ → List ℕ
-packed first second out =
-    let n = min (min (length first) (length second)) (length out) in
-    tab (λ k. pair (getD first k 0) (getD second k 0)) n ++ drop n out
+unfoldable pub packed : List ℕ → List ℕ → List ℕ
+packed rows out =
+    let second = length rows / 2 in
+    let n = min second (length out) in
+    tab (λ k. pair (getD rows k 0) (getD rows (second + k) 0)) n ++ drop n out
 
 abbrev pub half : Bool → ℕ → ℕ
 half upper n = cond upper (n / place) (n % place)

@@ -6,7 +6,7 @@ ghost use Rattle.pairs.specs.Packing.{pair, packed, half, halves};
 use field::Modulus;
 use words::least;
 
-// What the second number of a pair counts.
+// What the second number of a pair counts: more than 127 products of numbers below 257 sum to.
 const PLACE: u64 = 0x80_0000;
 
 // Two numbers as one, in 32 bits.
@@ -16,14 +16,15 @@ fn pair_of(first: u32, second: u32) -> u32
     ((first as u64 + PLACE * second as u64) % 0x1_0000_0000) as u32
 }
 
-// Packs two rows into one, as many numbers as both have and have room; the rest of the output stays as it was.
-pub fn pack(first: &[u32], second: &[u32], out: &mut [u32])
-    ensures { λ _. ⌜ now (out .exit) ≡ packed (now (first .entry)) (now (second .entry)) (now (out .entry)) ⌝ }
+// Packs two rows, the halves of a list, into one: as many pairs as have room; the rest of the output stays as it was.
+pub fn pack(rows: &[u32], out: &mut [u32])
+    ensures { λ _. ⌜ now (out .exit) ≡ packed (now (rows .entry)) (now (out .entry)) ⌝ }
 {
-    let n = least(least(first.len(), second.len()), out.len());
+    let second = rows.len() / 2;
+    let n = least(second, out.len());
     let mut k = 0;
     while k < n {
-        out[k] = pair_of(first[k], second[k]);
+        out[k] = pair_of(rows[k], rows[second + k]);
         k += 1;
     }
 }

@@ -1,20 +1,20 @@
 -- The product, some rows at a time.
 --
 --   one-row       the sums of 64 bits by one row are a product of one row
+--   front-there   an array of which a front was lent
 --   two-rows      the halves of the sums by two packed rows are a product of two rows
 --   part-rows     a product by some rows of A's share is those rows of the product
 use mathlib.Core.Path.{_≡_, refl, ap, ap₂, _∙_}
 use mathlib.Core.Bool.{Bool, true, false, cond}
 use mathlib.Core.List.{List, _++_, append-nil}
-use Prim.Native.Nat.{ℕ, _+_, _-_, _*_, _%_, _<_, _≤_}
+use Prim.Native.Nat.{ℕ, _+_, _-_, _*_, _%_, _≤_}
 use native.Mathlib.Nat.{lt-of-lt-of-le}
 use native.Mathlib.Omega.{arith}
 use lib.ListN.{length, getD, take, drop, length-append, length-take, length-drop, drop-of-length-le}
-use lib.Seq.{getD-take, getD-drop, length-take-le, take-all, take-at}
+use lib.Seq.{getD-take, getD-drop, length-take-le, length-front, take-at}
 use Rattle.algebra.specs.Lists.{tab, grid, entry, AllBelow}
-use Rattle.algebra.specs.Sums.{sum}
 use Rattle.algebra.proofs.Orders.{row-end}
-use Rattle.algebra.proofs.Lists.{length-tab, below-part}
+use Rattle.algebra.proofs.Lists.{length-tab}
 use Rattle.algebra.proofs.Grids.{tab-cong, grid-cong}
 use Rattle.algebra.proofs.Sums.{sum-cong}
 use Rattle.field.specs.declared.Modulus.{Modulus}
@@ -22,28 +22,24 @@ use Rattle.field.specs.Modulus.{prime}
 use Rattle.rows.specs.Combination.{zeros, combination, added, reduced}
 use Rattle.rows.proofs.Exact.{combination-fits, added-zeros, reduced-tab}
 use Rattle.pairs.specs.Packing.{packed, halves}
-use Rattle.pairs.proofs.Exact.{halves-exact}
+use Rattle.pairs.proofs.Exact.{dot, halves-exact}
 use Rattle.product.specs.Product.{productEntry, productOf}
-
--- the weights are row i of A's share
-row-entry : (inner columns : ℕ) (a b row : List ℕ) (i : ℕ) → length row ≡ inner → ((l : ℕ) → l < inner → getD row l 0 ≡ entry inner a i l)
-    → (j : ℕ) → combination row b columns j ≡ productEntry inner columns a b i j
-unfolding combination productEntry
-row-entry inner columns a b row i len same j =
-    ap (λ (n : ℕ). sum n (λ l. getD row l 0 * entry columns b l j)) len
-    ∙ sum-cong inner _ _ (λ l h. ap (λ (x : ℕ). x * entry columns b l j) (same l h))
 
 pub one-row : (m : Modulus) (row b sums out : List ℕ) → AllBelow (prime m) row → AllBelow (prime m) b → length row ≤ 4096 → length sums ≡ length out
     → reduced (prime m) (added (zeros sums) row b (length out)) out ≡ productOf (prime m) 1 (length row) (length out) row b
-unfolding productOf grid entry
+unfolding productOf productEntry combination grid entry
 one-row m row b sums out below-row below-b few same =
     let n = length out in
     ap (λ (xs : List ℕ). reduced (prime m) xs out)
     (added-zeros row b n sums (λ j l. combination-fits row b n m j few below-row below-b) ∙ ap (tab (combination row b n)) same)
     ∙ reduced-tab (prime m) n (combination row b n) out refl
-    ∙ tab-cong _ _ n (λ j h. ap (λ (x : ℕ). x % prime m) (row-entry (length row) n row b row 0 refl (λ l k.
+    ∙ tab-cong _ _ n (λ j h. ap (λ (x : ℕ). x % prime m) (sum-cong (length row) _ _ (λ l k.
     let start : l ≡ 0 * length row + l = omega arith in
-    ap (λ (t : ℕ). getD row t 0) start) j))
+    ap (λ (t : ℕ). getD row t 0 * getD b (l * n + j) 0) start)))
+
+-- an array whose first n elements are written still has them
+pub front-there : (n : ℕ) (old first : List ℕ) → length first ≡ length (take n old) → n ≤ length old → n ≤ length (first ++ drop n old)
+front-there n old first same room = omega (arith, length-front old first n same)
 
 -- an output whose first n elements are written
 abbrev written : ℕ → List ℕ → List ℕ → List ℕ
@@ -66,40 +62,19 @@ module _ (n : ℕ) (first second out : List ℕ) (one : length first ≡ n) (siz
 -- two rows of A's share that can be packed
 module _ (m : Modulus) (inner : ℕ) (pair b : List ℕ) (small : prime m ≤ 257) (few : inner ≤ 127) (len : length pair ≡ 2 * inner)
     (below-pair : AllBelow (prime m) pair) (below-b : AllBelow (prime m) b) where
-  -- the second of them
-  rest : take (length pair - inner) (drop inner pair) ≡ drop inner pair
-  rest = take-all (length pair - inner) (drop inner pair) (omega (arith, length-drop inner pair))
-
-  -- each of them as weights
-  row-of : (n : ℕ) (upper : Bool) (j : ℕ)
-      → combination (cond upper (take (length pair - inner) (drop inner pair)) (take inner pair)) b n j ≡ productEntry inner n pair b (cond upper 1 0) j
-  unfolding entry
-  row-of n false j =
-      row-entry inner n pair b (take inner pair) 0 (length-take-le inner pair (omega arith)) (λ l h.
-      let start : l ≡ 0 * inner + l = omega arith in
-      getD-take inner pair l 0 h ∙ ap (λ (k : ℕ). getD pair k 0) start) j
-  row-of n true j =
-      rw rest (row-entry inner n pair b (drop inner pair) 1 (omega (arith, length-drop inner pair)) (λ l h.
-      let start : inner + l ≡ 1 * inner + l = omega arith in
-      getD-drop inner pair l 0 ∙ ap (λ (k : ℕ). getD pair k 0) start) j)
-
   half-exact : (upper : Bool) (weights sums out : List ℕ) → length weights ≡ inner → length out ≡ length sums
-      → reduced (prime m) (halves upper (added (zeros sums) (packed (take inner pair) (take (length pair - inner) (drop inner pair)) weights) b (length sums))) out
+      → reduced (prime m) (halves upper (added (zeros sums) (packed pair weights) b (length sums))) out
       ≡ tab (λ j. productEntry inner (length sums) pair b (cond upper 1 0) j % prime m) (length sums)
+  unfolding productEntry
   half-exact upper weights sums out same size =
       let n = length sums in
       ap (λ (xs : List ℕ). reduced (prime m) xs out)
-      (halves-exact (take inner pair) (take (length pair - inner) (drop inner pair)) b inner n
-      (length-take-le inner pair (omega arith)) (rw rest (omega (arith, length-drop inner pair))) few
-      (λ i l. lt-of-lt-of-le (below-part (prime m) pair below-pair inner 0 i l) small)
-      (λ i l. lt-of-lt-of-le (below-part (prime m) pair below-pair (length pair - inner) inner i l) small)
-      (λ i l. lt-of-lt-of-le (below-b i l) small) weights sums upper same)
-      ∙ reduced-tab (prime m) n _ out size
-      ∙ tab-cong _ _ n (λ j l. ap (λ (x : ℕ). x % prime m) (row-of n upper j))
+      (halves-exact pair b inner n len few (λ i l. lt-of-lt-of-le (below-pair i l) small) (λ i l. lt-of-lt-of-le (below-b i l) small) weights sums upper same)
+      ∙ reduced-tab (prime m) n (dot pair b inner n len (cond upper 1 0)) out size
 
   -- the weights, the sums and the rows, one made from the other
   pub two-rows : (empty weights sums cleared made first second out : List ℕ) → inner ≤ length empty → length weights ≡ length (take inner empty)
-      → weights ≡ packed (take inner pair) (take (length pair - inner) (drop inner pair)) (take inner empty)
+      → weights ≡ packed pair (take inner empty)
       → cleared ≡ zeros sums
       → made ≡ added cleared (take inner (weights ++ drop inner empty)) b (length sums)
       → length out ≡ 2 * length sums
@@ -111,7 +86,7 @@ module _ (m : Modulus) (inner : ℕ) (pair b : List ℕ) (small : prime m ≤ 25
   two-rows empty weights sums cleared made first second out wide same is-weights is-cleared is-made size is-first is-second =
       let n = length sums in
       let thin : length (take inner empty) ≡ inner = length-take-le inner empty wide in
-      let lent : take inner (weights ++ drop inner empty) ≡ packed (take inner pair) (take (length pair - inner) (drop inner pair)) (take inner empty)
+      let lent : take inner (weights ++ drop inner empty) ≡ packed pair (take inner empty)
       = take-at weights (drop inner empty) inner (same ∙ thin) ∙ is-weights in
       let sums-are = is-made ∙ ap₂ (λ (s w : List ℕ). added s w b n) is-cleared lent in
       let low : first ≡ tab (λ j. productEntry inner n pair b 0 j % prime m) n

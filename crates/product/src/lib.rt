@@ -73,34 +73,7 @@ fn at_once(modulus: Modulus, inner: usize) -> usize
     2
 }
 
-// Two rows of the product at once: A's rows are packed, and the sums taken apart.
-fn two_rows(
-    modulus: Modulus,
-    inner: usize,
-    pair: &[u32],
-    b: &[u32],
-    sums: &mut [u64],
-    out: &mut [u32],
-)
-    requires { ⌜ prime modulus ≤ 257
-        × inner ≤ 127
-        × AllBelow (prime modulus) (now pair)
-        × AllBelow (prime modulus) (now b)
-        × length (now pair) ≡ 2 * inner
-        × length (now out) ≡ 2 * length (now sums) ⌝ }
-    ensures { λ _. ⌜ now (out .exit)
-        ≡ productOf (prime modulus) 2 inner (length (now (sums .entry))) (now (pair .entry)) (now (b .entry)) ⌝ }
-{
-    let columns = sums.len();
-    let mut weights = [0u32; MOST_PACKED];
-    pairs::pack(&pair[..inner], &pair[inner..], &mut weights[..inner]);
-    rows::clear(sums);
-    rows::add_rows(sums, &weights[..inner], b, columns);
-    pairs::unpack(modulus, false, sums, &mut out[..columns]);
-    pairs::unpack(modulus, true, sums, &mut out[columns..]);
-}
-
-// One row of the product or two, as can be made at once.
+// One row of the product, or two at once: then A's rows are packed, and the sums taken apart.
 fn few_rows(
     modulus: Modulus,
     count: usize,
@@ -119,11 +92,17 @@ fn few_rows(
     ensures { λ _. ⌜ now (out .exit)
         ≡ productOf (prime modulus) count inner (length (now (sums .entry))) (now (part .entry)) (now (b .entry)) ⌝ }
 {
-    if count == 2 {
-        two_rows(modulus, inner, part, b, sums, out);
-    } else {
+    if count < 2 {
         product_row(modulus, part, b, sums, out);
+        return;
     }
+    let columns = sums.len();
+    let mut weights = [0u32; MOST_PACKED];
+    pairs::pack(part, &mut weights[..inner]);
+    rows::clear(sums);
+    rows::add_rows(sums, &weights[..inner], b, columns);
+    pairs::unpack(modulus, false, sums, &mut out[..columns]);
+    pairs::unpack(modulus, true, sums, &mut out[columns..]);
 }
 
 // The product of two shares of the right lengths, a few rows at a time.

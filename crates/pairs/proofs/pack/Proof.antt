@@ -1,7 +1,7 @@
 -- `pairs::pack` meets its contract.
 use mathlib.Core.Path.{_≡_, refl, ap, _∙_}
 use mathlib.Core.List.{List, _++_}
-use Prim.Native.Nat.{ℕ, _-_, _≤_, min}
+use Prim.Native.Nat.{ℕ, _+_, _-_, _/_, _≤_, min}
 use native.Mathlib.Omega.{arith}
 use borrow.Author.Needs.{needs}
 use lib.ListN.{length, getD, drop, set, length-set}
@@ -12,30 +12,30 @@ use Rattle.pairs.proofs.pack.Statement.{statement}
 use Rattle.pairs.proofs.pack.Tie as tie
 
 -- the pair at k
-abbrev at : List ℕ → List ℕ → ℕ → ℕ
-at first second k = pair (getD first k 0) (getD second k 0)
+abbrev at : List ℕ → ℕ → ℕ
+at rows k = pair (getD rows k 0) (getD rows (length rows / 2 + k) 0)
 
 abbrev Inv-loop : tie.InvT-loop
-Inv-loop first second out₀ n k₀ out k =
-    record { is : out ≡ tab (at first second) k ++ drop k out₀; short : k ≤ n; same : length out ≡ length out₀ }
+Inv-loop rows out₀ second n k₀ out k =
+    record { is : out ≡ tab (at rows) k ++ drop k out₀; short : k ≤ n; same : length out ≡ length out₀ }
 
 abbrev μ-loop : tie.MeasureT-loop
-μ-loop first second out₀ n k₀ out k = n - k
+μ-loop rows out₀ second n k₀ out k = n - k
 
 least-requires : tie.Need-least-requires Inv-loop μ-loop
 least-requires c κs = search needs
 
-least-requires-2 : tie.Need-least-requires-2 Inv-loop μ-loop
-least-requires-2 c κs = search needs
-
 loop-holds : tie.Need-loop-holds Inv-loop μ-loop
-loop-holds c = record { is = front-none _ (c .before .before .before .before .before .args .out .now); short = omega arith; same = refl }
+loop-holds c = record { is = front-none _ (c .before .before .before .args .out .now); short = omega arith; same = refl }
 
 mul-pair-of : tie.Need-mul-pair-of Inv-loop μ-loop
 mul-pair-of c = omega arith
 
 shared-slice-read-pair-of : tie.Need-shared-slice-read-pair-of Inv-loop μ-loop
 shared-slice-read-pair-of c = omega arith
+
+add-pair-of : tie.Need-add-pair-of Inv-loop μ-loop
+add-pair-of c = omega arith
 
 mul-pair-of-2 : tie.Need-mul-pair-of-2 Inv-loop μ-loop
 mul-pair-of-2 c = omega arith
@@ -61,10 +61,9 @@ loop-less c = omega arith
 loop-again : tie.Need-loop-again Inv-loop μ-loop
 loop-again c =
     let l = c .before .before .before .before in
-    let a = l .before .before .before .before .before .before .args in
-    let f = at (a .first .now) (a .second .now) in
+    let a = l .before .before .before .before .args in
     record {
-      is = ap (set (l .loop .out) (l .loop .k)) (c .pair-of .ensures) ∙ front-more f (a .out .now) (l .loop .out) (l .loop .k) (omega arith) (l .loop .inv .is);
+      is = ap (set (l .loop .out) (l .loop .k)) (c .pair-of .ensures) ∙ front-more (at (a .rows .now)) (a .out .now) (l .loop .out) (l .loop .k) (omega arith) (l .loop .inv .is);
       short = omega arith;
       same = simp length-set (l .loop .inv .same);
     }
@@ -76,10 +75,9 @@ returns : tie.Need-returns Inv-loop μ-loop
 unfolding packed
 returns c =
     let l = c .before in
-    let a = l .before .before .before .before .before .before .args in
-    let all : l .loop .k ≡ min (min (length (a .first .now)) (length (a .second .now))) (length (a .out .now))
-    = omega (arith, l .before .least2 .ensures, l .before .before .least .ensures) in
-    l .loop .inv .is ∙ ap (λ (n : ℕ). tab (at (a .first .now) (a .second .now)) n ++ drop n (a .out .now)) all
+    let a = l .before .before .before .before .args in
+    let all : l .loop .k ≡ min (length (a .rows .now) / 2) (length (a .out .now)) = omega (arith, l .before .least .ensures) in
+    l .loop .inv .is ∙ ap (λ (n : ℕ). tab (at (a .rows .now)) n ++ drop n (a .out .now)) all
 
 pub pack-spec : {M : Type 1} → statement M
 pack-spec =
@@ -88,10 +86,10 @@ pack-spec =
     Inv-loop
     μ-loop
     least-requires
-    least-requires-2
     loop-holds
     mul-pair-of
     shared-slice-read-pair-of
+    add-pair-of
     mul-pair-of-2
     shared-slice-read-pair-of-2
     pair-of-requires

@@ -52,6 +52,7 @@ turn : (c : tie.After-least Inv-loop μ-loop)
     let i = c .before .before .loop .i in
     let n = c .least .result in
     AtOnce (prime (a .modulus)) (a .inner) n × (i + n ≤ a .rows) × (i * a .inner + n * a .inner ≤ a .rows * a .inner) × (i * a .columns + n * a .columns ≤ a .rows * a .columns)
+    × (length (take (a .columns) (c .before .before .loop .sums)) ≡ a .columns)
 turn c =
     let a = c .before .before .before .before .before .before .before .args in
     let once = c .before .before .before .at-once .ensures in
@@ -60,6 +61,7 @@ turn c =
       n,
       omega (arith, mul-le-mul-right (a .inner) n),
       omega (arith, mul-le-mul-right (a .columns) n),
+      length-take-le (a .columns) (c .before .before .loop .sums) (omega arith),
     )
 
 mul-left : tie.Need-mul-left Inv-loop μ-loop
@@ -126,7 +128,7 @@ few-rows-requires c κs =
       e .pre .4,
       length-take-le (n * a .inner) (drop (i * a .inner) (a .a .now)) (omega (arith, length-drop (i * a .inner) (a .a .now))),
       length-take-le (n * a .columns) (drop (i * a .columns) out) (omega (arith, length-drop (i * a .columns) out))
-          ∙ ap (λ (k : ℕ). n * k) (sym (length-take-le (a .columns) (l .before .before .loop .sums) (omega arith))),
+          ∙ ap (λ (k : ℕ). n * k) (sym (t .4)),
     )
 
 add-i : tie.Need-add-i Inv-loop μ-loop
@@ -146,10 +148,10 @@ loop-again c =
     let t = turn l in
     let made = rw add-sub-cancel-left at (rows .few-rows .ensures) in
     let is = made
-    ∙ ap (λ (k : ℕ). productOf (prime (a .modulus)) n (a .inner) k (take (n * a .inner) (drop (loop .i * a .inner) (a .a .now))) (a .b .now)) (length-take-le (a .columns) (loop .sums) (omega arith))
+    ∙ ap (λ (k : ℕ). productOf (prime (a .modulus)) n (a .inner) k (take (n * a .inner) (drop (loop .i * a .inner) (a .a .now))) (a .b .now)) (t .4)
     ∙ part-rows (prime (a .modulus)) (a .inner) (a .columns) (a .a .now) (a .b .now) (loop .i) n in
     record {
-      short = omega arith;
+      short = t .1;
       wide = length-front (loop .sums) (rows .few-rows .last .1 .1 .1 .1 .1 .0) (a .columns) (c .before .before .sums2 .given) ∙ loop .inv .wide;
       same = omega arith;
       is = rw add-sub-cancel-left (rows-some (element (a .modulus) (a .inner) (a .columns) (a .a .now) (a .b .now)) (a .out .now) (loop .out) _ (a .columns) (loop .i) n (loop .inv .is) is);
