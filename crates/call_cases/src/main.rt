@@ -1,6 +1,7 @@
 // Runs shares, products and messages on many inputs: cases come from standard input, one after another, and their answers go
 // to standard output. The cases and the answers are those of the separate Rust program in docs/src, whose file calls.rs tells
 // the format of both.
+ghost use mathlib.Core.Path.{_≡_};
 ghost use Prim.Native.Nat.{_≤_};
 ghost use lib.ListN.{length};
 ghost use Rattle.io.specs.Counts.{Counts};
@@ -12,15 +13,22 @@ use plan::Job;
 use weights::Matrix;
 use words::least;
 
+// Where the lists of a case end, one after another.
+struct Ends {
+    points: usize,
+    xs: usize,
+    ys: usize,
+}
+
 // What stands in an output before a call.
 const FILLING: u32 = 0xA5A5A5A5;
 
 const FILLING_BYTE: u8 = 0xA5;
 
-// The largest case: its points, the words of each other list, the bytes of a message, the elements of an output.
-const MOST_POINTS: usize = 128;
+// The largest case: the words of its lists, and their bytes, the bytes of a message, the elements of an output.
+const MOST_WORDS: usize = 32896;
 
-const MOST_WORDS: usize = 16384;
+const MOST_LIST_BYTES: usize = 4 * MOST_WORDS;
 
 const MOST_BYTES: usize = 20000;
 
@@ -32,6 +40,48 @@ const HEAD_WORDS: usize = 18;
 // The program ends, however long its input is.
 const MOST_CASES: u32 = 1000000;
 
+// The ends of lists of these lengths.
+fn ends_of(points: u32, xs: u32, ys: u32) -> Ends
+    ensures { λ r. ⌜ (r .points ≤ r .xs) × (r .xs ≤ r .ys) ⌝ }
+{
+    let first = points as usize;
+    let second = first + xs as usize;
+    Ends {
+        points: first,
+        xs: second,
+        ys: second + ys as usize,
+    }
+}
+
+// Arrays for a case: the contract of each gives the length alone, which is all that lending it needs.
+// Zeros for the bytes of the lists.
+fn list_bytes() -> [u8; MOST_LIST_BYTES]
+    ensures { λ r. ⌜ 131584 ≡ length r ⌝ }
+{
+    [0; MOST_LIST_BYTES]
+}
+
+// Zeros for the lists.
+fn list_words() -> [u32; MOST_WORDS]
+    ensures { λ r. ⌜ 32896 ≡ length r ⌝ }
+{
+    [0; MOST_WORDS]
+}
+
+// An output of bytes, or room for a message.
+fn filled_message() -> [u8; MOST_BYTES]
+    ensures { λ r. ⌜ 20000 ≡ length r ⌝ }
+{
+    [FILLING_BYTE; MOST_BYTES]
+}
+
+// An output of elements.
+fn filled_output() -> [u32; MOST_ELEMENTS]
+    ensures { λ r. ⌜ 8192 ≡ length r ⌝ }
+{
+    [FILLING; MOST_ELEMENTS]
+}
+
 // Reads that many bytes to the front of the buffer, or as many as it has room for and the input has; tells how many.
 fn read_bytes(count: usize, out: &mut [u8]) -> usize
     ensures { λ r. ⌜ Counts r (now (out .exit)) ⌝ }
@@ -42,10 +92,10 @@ fn read_bytes(count: usize, out: &mut [u8]) -> usize
 
 // Reads words in the same way.
 fn read_words(count: usize, out: &mut [u32]) -> usize
-    requires { ⌜ length (now out) ≤ 16384 ⌝ }
+    requires { ⌜ length (now out) ≤ 32896 ⌝ }
     ensures { λ r. ⌜ Counts r (now (out .exit)) ⌝ }
 {
-    let mut bytes = io::large_buffer();
+    let mut bytes = list_bytes();
     let n = read_bytes(4 * least(count, out.len()), &mut bytes);
     elements::read_elements(&bytes[..n], out);
     least(n / 4, out.len())
@@ -187,7 +237,7 @@ fn answer_call(
     if MOST_ELEMENTS < room {
         return false;
     }
-    let mut out = [FILLING; MOST_ELEMENTS];
+    let mut out = filled_output();
     if !run_call(head, points, xs, ys, message, &mut out[..room]) {
         return false;
     }
@@ -201,7 +251,7 @@ fn answer_write(head: [u32; HEAD_WORDS], xs: &[u32]) -> bool {
     if MOST_BYTES < room {
         return false;
     }
-    let mut out = [FILLING_BYTE; MOST_BYTES];
+    let mut out = filled_message();
     let header = Header {
         kind: head[1],
         modulus: head[2],
@@ -216,28 +266,39 @@ fn answer_write(head: [u32; HEAD_WORDS], xs: &[u32]) -> bool {
     true
 }
 
-// Reads the lists of a case and answers it; false where it is over the limits, or the input ends in it.
-fn run_case(head: [u32; HEAD_WORDS]) -> bool {
-    let mut points = [0u32; MOST_POINTS];
-    let mut xs = [0u32; MOST_WORDS];
-    let mut ys = [0u32; MOST_WORDS];
-    let mut message = [0u8; MOST_BYTES];
-    let p = read_words(head[13] as usize, &mut points);
-    let x = read_words(head[14] as usize, &mut xs);
-    let y = read_words(head[15] as usize, &mut ys);
-    let m = read_bytes(head[16] as usize, &mut message);
-    if p < head[13] as usize
-        || x < head[14] as usize
-        || y < head[15] as usize
-        || m < head[16] as usize
-    {
+// Reads the message of a case and answers it; false where it is over the limits, or the input ends in it.
+fn run_message(head: [u32; HEAD_WORDS], points: &[u32], xs: &[u32], ys: &[u32]) -> bool {
+    let count = head[16] as usize;
+    let mut message = filled_message();
+    let n = read_bytes(count, &mut message);
+    if n < count {
         return false;
     }
     let call = head[0];
     if call == 4 {
-        return answer_write(head, &xs[..x]);
+        return answer_write(head, xs);
     }
-    answer_call(head, &points[..p], &xs[..x], &ys[..y], &message[..m])
+    answer_call(head, points, xs, ys, &message[..n])
+}
+
+// Answers a case with these lists; false where it is over the limits, or the input ended in it.
+fn run_lists(head: [u32; HEAD_WORDS], lists: &[u32]) -> bool {
+    let ends = ends_of(head[13], head[14], head[15]);
+    let points = ends.points;
+    let xs = ends.xs;
+    let ys = ends.ys;
+    if lists.len() < ys {
+        return false;
+    }
+    run_message(head, &lists[..points], &lists[points..xs], &lists[xs..ys])
+}
+
+// Reads the lists of a case and answers it; false where it is over the limits, or the input ends in it.
+fn run_case(head: [u32; HEAD_WORDS]) -> bool {
+    let ends = ends_of(head[13], head[14], head[15]);
+    let mut lists = list_words();
+    let n = read_words(ends.ys, &mut lists);
+    run_lists(head, &lists[..n])
 }
 
 // Answers one case after another, until one is over the limits or the input is at its end.

@@ -15,11 +15,14 @@ cast-room c = search needs
 returns : tie.Need-returns
 returns c = search needs
 
+filled-output-requires : tie.Need-filled-output-requires
+filled-output-requires c κs = search needs
+
 array-borrow-prefix-out : tie.Need-array-borrow-prefix-out
 array-borrow-prefix-out c = search needs
 
 slice-aggregate-run-call : tie.Need-slice-aggregate-run-call
-slice-aggregate-run-call c = sym (length-take-le _ _ (c .before .if1 .left))
+slice-aggregate-run-call c = sym (length-take-le _ _ (array-borrow-prefix-out (c .before)))
 
 run-call-requires : tie.Need-run-call-requires
 run-call-requires c κs = search needs
@@ -28,13 +31,13 @@ returns-2 : tie.Need-returns-2
 returns-2 c = search needs
 
 array-share-prefix-out : tie.Need-array-share-prefix-out
-array-share-prefix-out c = rw (length-front _ _ _ (c .before .out2 .given)) (c .before .before .before .before .if1 .left)
+array-share-prefix-out c = rw (length-front _ _ _ (c .before .out2 .given)) (array-borrow-prefix-out (c .before .before .before .before))
 
 slice-aggregate-put-output : tie.Need-slice-aggregate-put-output
 slice-aggregate-put-output c = sym (length-take-le _ _ (array-share-prefix-out (c .before)))
 
 put-output-requires : tie.Need-put-output-requires
-put-output-requires c κs = subst (λ (k : ℕ). k ≤ 8192) (slice-aggregate-put-output c) (c .before .before .before .before .before .if1 .left)
+put-output-requires c κs = subst (λ (k : ℕ). k ≤ 8192) (slice-aggregate-put-output c) (c .before .before .before .before .before .before .if1 .left)
 
 returns-3 : tie.Need-returns-3
 returns-3 c = search needs
@@ -46,6 +49,7 @@ answer-call-spec =
     array-read-room
     cast-room
     returns
+    filled-output-requires
     array-borrow-prefix-out
     slice-aggregate-run-call
     run-call-requires

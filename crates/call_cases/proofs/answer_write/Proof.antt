@@ -15,29 +15,32 @@ cast-room c = search needs
 returns : tie.Need-returns
 returns c = search needs
 
+filled-message-requires : tie.Need-filled-message-requires
+filled-message-requires c κs = search needs
+
 array-read-t10 : tie.Need-array-read-t10
 array-read-t10 c = search needs
 
-array-read-t16 : tie.Need-array-read-t16
-array-read-t16 c = search needs
+array-read-t17 : tie.Need-array-read-t17
+array-read-t17 c = search needs
 
-array-read-t19 : tie.Need-array-read-t19
-array-read-t19 c = search needs
+array-read-t20 : tie.Need-array-read-t20
+array-read-t20 c = search needs
 
-array-read-t22 : tie.Need-array-read-t22
-array-read-t22 c = search needs
+array-read-t23 : tie.Need-array-read-t23
+array-read-t23 c = search needs
 
-array-read-t25 : tie.Need-array-read-t25
-array-read-t25 c = search needs
+array-read-t26 : tie.Need-array-read-t26
+array-read-t26 c = search needs
 
-array-read-t28 : tie.Need-array-read-t28
-array-read-t28 c = search needs
+array-read-t29 : tie.Need-array-read-t29
+array-read-t29 c = search needs
 
 array-borrow-prefix-out : tie.Need-array-borrow-prefix-out
 array-borrow-prefix-out c = search needs
 
 slice-aggregate-write-message : tie.Need-slice-aggregate-write-message
-slice-aggregate-write-message c = sym (length-take-le _ _ (c .before .if1 .left))
+slice-aggregate-write-message c = sym (length-take-le _ _ (array-borrow-prefix-out (c .before)))
 
 write-message-requires : tie.Need-write-message-requires
 write-message-requires c κs = search needs
@@ -46,13 +49,13 @@ put-number-requires : tie.Need-put-number-requires
 put-number-requires c κs = search needs
 
 array-share-prefix-out : tie.Need-array-share-prefix-out
-array-share-prefix-out c = rw (length-front _ _ _ (c .before .out2 .given)) (c .before .before .before .before .if1 .left)
+array-share-prefix-out c = rw (length-front _ _ _ (c .before .out2 .given)) (array-borrow-prefix-out (c .before .before .before .before))
 
 slice-aggregate-put-message : tie.Need-slice-aggregate-put-message
 slice-aggregate-put-message c = sym (length-take-le _ _ (array-share-prefix-out (c .before)))
 
 put-message-requires : tie.Need-put-message-requires
-put-message-requires c κs = subst (λ (k : ℕ). k ≤ 20000) (slice-aggregate-put-message c) (c .before .before .before .before .before .if1 .left)
+put-message-requires c κs = subst (λ (k : ℕ). k ≤ 20000) (slice-aggregate-put-message c) (c .before .before .before .before .before .before .if1 .left)
 
 returns-2 : tie.Need-returns-2
 returns-2 c = search needs
@@ -64,12 +67,13 @@ answer-write-spec =
     array-read-room
     cast-room
     returns
+    filled-message-requires
     array-read-t10
-    array-read-t16
-    array-read-t19
-    array-read-t22
-    array-read-t25
-    array-read-t28
+    array-read-t17
+    array-read-t20
+    array-read-t23
+    array-read-t26
+    array-read-t29
     array-borrow-prefix-out
     slice-aggregate-write-message
     write-message-requires

@@ -4,8 +4,8 @@ use Rattle.call_cases.proofs.Counts.{counts}
 use Rattle.call_cases.proofs.read_words.Statement.{statement}
 use Rattle.call_cases.proofs.read_words.Tie as tie
 
-large-buffer-requires : tie.Need-large-buffer-requires
-large-buffer-requires c κs = search needs
+list-bytes-requires : tie.Need-list-bytes-requires
+list-bytes-requires c κs = search needs
 
 least-requires : tie.Need-least-requires
 least-requires c κs = search needs
@@ -41,7 +41,7 @@ pub read-words-spec : {M : Type 1} → statement M
 read-words-spec =
     tie.close
     (tie.spec
-    large-buffer-requires
+    list-bytes-requires
     least-requires
     mul-read-bytes
     slice-aggregate-read-bytes
