@@ -7,11 +7,9 @@ ghost use lib.ListN.{length};
 ghost use Rattle.io.specs.Counts.{Counts};
 use header::Header;
 use header::Reading;
-use libc::STDIN_FILENO;
 use libc::STDOUT_FILENO;
 use plan::Job;
 use weights::Matrix;
-use words::least;
 
 // Where the lists of a case end, one after another.
 struct Ends {
@@ -20,15 +18,11 @@ struct Ends {
     ys: usize,
 }
 
-// What stands in an output before a call.
-const FILLING: u32 = 0xA5A5A5A5;
-
+// What stands in an output of bytes before a call.
 const FILLING_BYTE: u8 = 0xA5;
 
-// The largest case: the words of its lists, and their bytes, the bytes of a message, the elements of an output.
+// The largest case: the words of its lists, the bytes of a message, the elements of an output.
 const MOST_WORDS: usize = 32896;
-
-const MOST_LIST_BYTES: usize = 4 * MOST_WORDS;
 
 const MOST_BYTES: usize = 20000;
 
@@ -53,15 +47,7 @@ fn ends_of(points: u32, xs: u32, ys: u32) -> Ends
     }
 }
 
-// Arrays for a case: the contract of each gives the length alone, which is all that lending it needs.
-// Zeros for the bytes of the lists.
-fn list_bytes() -> [u8; MOST_LIST_BYTES]
-    ensures { λ r. ⌜ 131584 ≡ length r ⌝ }
-{
-    [0; MOST_LIST_BYTES]
-}
-
-// Zeros for the lists.
+// Zeros for the lists. Of this and the next two, lending needs the length alone.
 fn list_words() -> [u32; MOST_WORDS]
     ensures { λ r. ⌜ 32896 ≡ length r ⌝ }
 {
@@ -79,55 +65,7 @@ fn filled_message() -> [u8; MOST_BYTES]
 fn filled_output() -> [u32; MOST_ELEMENTS]
     ensures { λ r. ⌜ 8192 ≡ length r ⌝ }
 {
-    [FILLING; MOST_ELEMENTS]
-}
-
-// Reads that many bytes to the front of the buffer, or as many as it has room for and the input has; tells how many.
-fn read_bytes(count: usize, out: &mut [u8]) -> usize
-    ensures { λ r. ⌜ Counts r (now (out .exit)) ⌝ }
-{
-    let n = least(count, out.len());
-    io::read_full(STDIN_FILENO, &mut out[..n])
-}
-
-// Reads words in the same way.
-fn read_words(count: usize, out: &mut [u32]) -> usize
-    requires { ⌜ length (now out) ≤ 32896 ⌝ }
-    ensures { λ r. ⌜ Counts r (now (out .exit)) ⌝ }
-{
-    let mut bytes = list_bytes();
-    let n = read_bytes(4 * least(count, out.len()), &mut bytes);
-    elements::read_elements(&bytes[..n], out);
-    least(n / 4, out.len())
-}
-
-// Writes words.
-fn put_words(words: &[u32])
-    requires { ⌜ length (now words) ≤ 16384 ⌝ }
-{
-    let mut bytes = io::large_buffer();
-    let size = 4 * words.len();
-    elements::write_elements(words, &mut bytes);
-    io::write_all(STDOUT_FILENO, &bytes[..size]);
-}
-
-// Writes a number as a word.
-fn put_number(number: u32) {
-    put_words(&[number]);
-}
-
-// How many words there are up to the last that is not the filling.
-fn filled_words(out: &[u32]) -> usize
-    ensures { λ r. ⌜ Counts r (now (out .entry)) ⌝ }
-{
-    let mut n = out.len();
-    while 0 < n {
-        if out[n - 1] != FILLING {
-            return n;
-        }
-        n -= 1;
-    }
-    0
+    [case_io::FILLING; MOST_ELEMENTS]
 }
 
 // How many bytes there are up to the last that is not the filling.
@@ -144,21 +82,12 @@ fn filled_bytes(out: &[u8]) -> usize
     0
 }
 
-// Writes an output of elements: how many there are up to the last that is not the filling, and these.
-fn put_output(out: &[u32])
-    requires { ⌜ length (now out) ≤ 8192 ⌝ }
-{
-    let n = filled_words(out);
-    put_number(n as u32);
-    put_words(&out[..n]);
-}
-
-// Writes an output of bytes in the same way.
+// Writes an output of bytes: how many there are up to the last that is not the filling, and these.
 fn put_message(out: &[u8])
     requires { ⌜ length (now out) ≤ 20000 ⌝ }
 {
     let n = filled_bytes(out);
-    put_number(n as u32);
+    case_io::put_number(n as u32);
     io::write_all(STDOUT_FILENO, &out[..n]);
 }
 
@@ -200,8 +129,8 @@ fn run_product(head: [u32; HEAD_WORDS], a: &[u32], b: &[u32], out: &mut [u32]) -
 // Writes what reading a message answers: 0 and the fields, or the refusal number.
 fn put_reading(reading: Reading) {
     match reading {
-        Reading::Refused(number) => put_number(number),
-        Reading::Done(h) => put_words(&[0, h.kind, h.modulus, h.host, h.rows, h.columns, h.number]),
+        Reading::Refused(number) => case_io::put_number(number),
+        Reading::Done(h) => case_io::put_words(&[0, h.kind, h.modulus, h.host, h.rows, h.columns, h.number]),
     }
 }
 
@@ -216,9 +145,9 @@ fn run_call(
 ) -> bool {
     let call = head[0];
     match call {
-        1 => put_number(run_share(Matrix::A, head, points, xs, ys, out)),
-        2 => put_number(run_share(Matrix::B, head, points, xs, ys, out)),
-        3 => put_number(run_product(head, xs, ys, out)),
+        1 => case_io::put_number(run_share(Matrix::A, head, points, xs, ys, out)),
+        2 => case_io::put_number(run_share(Matrix::B, head, points, xs, ys, out)),
+        3 => case_io::put_number(run_product(head, xs, ys, out)),
         5 => put_reading(message::read_message(message, out)),
         _ => return false,
     }
@@ -241,7 +170,7 @@ fn answer_call(
     if !run_call(head, points, xs, ys, message, &mut out[..room]) {
         return false;
     }
-    put_output(&out[..room]);
+    case_io::put_output(&out[..room]);
     true
 }
 
@@ -261,7 +190,7 @@ fn answer_write(head: [u32; HEAD_WORDS], xs: &[u32]) -> bool {
         number: head[6],
     };
     let number = message::write_message(header, xs, &mut out[..room]);
-    put_number(number);
+    case_io::put_number(number);
     put_message(&out[..room]);
     true
 }
@@ -270,7 +199,7 @@ fn answer_write(head: [u32; HEAD_WORDS], xs: &[u32]) -> bool {
 fn run_message(head: [u32; HEAD_WORDS], points: &[u32], xs: &[u32], ys: &[u32]) -> bool {
     let count = head[16] as usize;
     let mut message = filled_message();
-    let n = read_bytes(count, &mut message);
+    let n = case_io::read_bytes(count, &mut message);
     if n < count {
         return false;
     }
@@ -297,7 +226,7 @@ fn run_lists(head: [u32; HEAD_WORDS], lists: &[u32]) -> bool {
 fn run_case(head: [u32; HEAD_WORDS]) -> bool {
     let ends = ends_of(head[13], head[14], head[15]);
     let mut lists = list_words();
-    let n = read_words(ends.ys, &mut lists);
+    let n = case_io::read_words(ends.ys, &mut lists);
     run_lists(head, &lists[..n])
 }
 
@@ -306,7 +235,7 @@ fn main() {
     let mut left = MOST_CASES;
     while 0 < left {
         let mut head = [0u32; HEAD_WORDS];
-        let n = read_words(HEAD_WORDS, &mut head);
+        let n = case_io::read_words(HEAD_WORDS, &mut head);
         if n < HEAD_WORDS {
             return;
         }

@@ -1,6 +1,5 @@
 -- `call_cases::answer_call` meets its contract.
-use Prim.Native.Nat.{ℕ, _≤_}
-use mathlib.Core.Path.{sym, subst}
+use mathlib.Core.Path.{sym}
 use lib.Seq.{length-take-le, length-front}
 use borrow.Author.Needs.{needs}
 use Rattle.call_cases.proofs.answer_call.Statement.{statement}
@@ -37,7 +36,7 @@ slice-aggregate-put-output : tie.Need-slice-aggregate-put-output
 slice-aggregate-put-output c = sym (length-take-le _ _ (array-share-prefix-out (c .before)))
 
 put-output-requires : tie.Need-put-output-requires
-put-output-requires c κs = subst (λ (k : ℕ). k ≤ 8192) (slice-aggregate-put-output c) (c .before .before .before .before .before .before .if1 .left)
+put-output-requires c κs = search needs
 
 returns-3 : tie.Need-returns-3
 returns-3 c = search needs

@@ -2,7 +2,7 @@
 use Prim.Native.Nat.{_≤_}
 use lib.ListN.{length}
 use borrow.Author.Needs.{needs}
-use Rattle.call_cases.proofs.Counts.{counts}
+use Rattle.case_io.proofs.Counts.{counts}
 use Rattle.call_cases.proofs.filled_bytes.Statement.{statement}
 use Rattle.call_cases.proofs.filled_bytes.Tie as tie
 

@@ -5,8 +5,8 @@ use Rattle.case_io.proofs.Counts.{counts}
 use Rattle.case_io.proofs.read_words.Statement.{statement}
 use Rattle.case_io.proofs.read_words.Tie as tie
 
-large-buffer-requires : tie.Need-large-buffer-requires
-large-buffer-requires c κs = search needs
+zero-bytes-requires : tie.Need-zero-bytes-requires
+zero-bytes-requires c κs = search needs
 
 least-requires : tie.Need-least-requires
 least-requires c κs = search needs
@@ -45,7 +45,7 @@ pub read-words-spec : {M : Type 1} → statement M
 read-words-spec =
     tie.close
     (tie.spec
-    large-buffer-requires
+    zero-bytes-requires
     least-requires
     least-requires-2
     mul-read-bytes

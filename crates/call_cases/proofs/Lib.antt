@@ -1,2 +1,0 @@
--- Laws for the proofs of `call_cases`.
-pub mod Counts
