@@ -1,5 +1,5 @@
 -- `elements::read_elements` meets its contract.
-use mathlib.Core.Path.{_≡_, refl, ap, _∙_}
+use mathlib.Core.Path.{_≡_, refl, sym, ap, _∙_}
 use mathlib.Core.List.{List, _++_}
 use Prim.Native.Nat.{ℕ, _+_, _-_, _*_, _/_, _≤_}
 use native.Mathlib.Nat.{min-le-left, min-le-right}
@@ -9,7 +9,7 @@ use lib.ListN.{length, drop, set, length-set}
 use Rattle.algebra.specs.Lists.{tab}
 use Rattle.algebra.proofs.Fronts.{front-none, front-more}
 use Rattle.elements.specs.Bytes.{numberAt, elementsOf, common}
-use Rattle.elements.proofs.Words.{number-of-four}
+use Rattle.elements.proofs.Words.{number-of-four, Four, four}
 use Rattle.elements.proofs.read_elements.Statement.{statement}
 use Rattle.elements.proofs.read_elements.Tie as tie
 
@@ -46,35 +46,39 @@ loop-holds c =
       is = front-none (place (a .bytes .now)) (a .out .now);
     }
 
+-- the four bytes of element i are there
+bytes : (c : tie.In-loop Inv-loop μ-loop) → Four (c .before .loop .i) (length (c .before .before .before .before .before .args .bytes .now))
+bytes c = let l = c .before in four _ _ _ (c .loop-test .taken) (l .loop .inv .enough) (l .before .before .before .before .good .0 .0)
+
 mul-at : tie.Need-mul-at Inv-loop μ-loop
-mul-at c = omega arith
+mul-at c = bytes c .at-fits
 
 shared-slice-read-word : tie.Need-shared-slice-read-word Inv-loop μ-loop
-shared-slice-read-word c = omega arith
+shared-slice-read-word c = bytes (c .before) .first
 
 add-word : tie.Need-add-word Inv-loop μ-loop
-add-word c = omega arith
+add-word c = bytes (c .before) .one-fits
 
 shared-slice-read-word-2 : tie.Need-shared-slice-read-word-2 Inv-loop μ-loop
-shared-slice-read-word-2 c = omega arith
+shared-slice-read-word-2 c = bytes (c .before .before) .second
 
 add-word-2 : tie.Need-add-word-2 Inv-loop μ-loop
-add-word-2 c = omega arith
+add-word-2 c = omega (arith, bytes (c .before .before))
 
 shared-slice-read-word-3 : tie.Need-shared-slice-read-word-3 Inv-loop μ-loop
-shared-slice-read-word-3 c = omega arith
+shared-slice-read-word-3 c = omega (arith, bytes (c .before .before .before))
 
 add-word-3 : tie.Need-add-word-3 Inv-loop μ-loop
-add-word-3 c = omega arith
+add-word-3 c = omega (arith, bytes (c .before .before .before))
 
 shared-slice-read-word-4 : tie.Need-shared-slice-read-word-4 Inv-loop μ-loop
-shared-slice-read-word-4 c = omega arith
+shared-slice-read-word-4 c = omega (arith, bytes (c .before .before .before .before))
 
 word-requires : tie.Need-word-requires Inv-loop μ-loop
 word-requires c κs = search needs
 
 mul-out : tie.Need-mul-out Inv-loop μ-loop
-mul-out c = omega arith
+mul-out c = bytes (c .before .before .before .before .before) .at-fits
 
 slice-write-out : tie.Need-slice-write-out Inv-loop μ-loop
 slice-write-out c = omega arith
@@ -90,7 +94,7 @@ unfolding place
 loop-again c =
     let l = c .before .before .before .before .before .before in
     let a = l .before .before .before .before .args in
-    let here : c .word .result ≡ place (a .bytes .now) (l .loop .i) = omega (arith, number-of-four (a .bytes .now) (l .loop .i * 4), c .word .ensures) in
+    let here = c .word .ensures ∙ sym (number-of-four (a .bytes .now) (l .loop .i * 4)) in
     record {
       short = omega arith;
       enough = l .loop .inv .enough;
@@ -102,7 +106,7 @@ loop-again c =
     }
 
 same-length : tie.Need-same-length Inv-loop μ-loop
-same-length c = omega arith
+same-length c = c .before .loop .inv .same
 
 returns : tie.Need-returns Inv-loop μ-loop
 unfolding place elementsOf common

@@ -37,13 +37,13 @@ mul-add-rows : tie.Need-mul-add-rows
 mul-add-rows c = weights-part (c .before .before .before .before .before .before .before .before) .place-fits
 
 sub-add-rows : tie.Need-sub-add-rows
-sub-add-rows c = weights-part (c .before .before .before .before .before .before .before .before) .ordered
+sub-add-rows c = omega (arith, weights-part (c .before .before .before .before .before .before .before .before))
 
 part-add-rows-start : tie.Need-part-add-rows-start
-part-add-rows-start c = weights-part (c .before .before .before .before .before .before .before .before) .ordered
+part-add-rows-start c = omega (arith, weights-part (c .before .before .before .before .before .before .before .before))
 
 part-add-rows-end : tie.Need-part-add-rows-end
-part-add-rows-end c = weights-part (c .before .before .before .before .before .before .before .before) .within
+part-add-rows-end c = omega (arith, weights-part (c .before .before .before .before .before .before .before .before))
 
 mul-add-rows-2 : tie.Need-mul-add-rows-2
 mul-add-rows-2 c = row (c .before .before .before .before .before .before .before .before .before) .place-fits
