@@ -12,3 +12,4 @@ pub mod Sums
 pub mod Polynomials
 pub mod Interpolation
 pub mod Sets
+pub mod Places

@@ -1,1 +1,2 @@
 -- Laws of decoding.
+pub mod Chosen

@@ -16,7 +16,7 @@ use Rattle.algebra.specs.Sets.{size}
 use Rattle.algebra.specs.Modular.{⟨_⟩_≈_}
 use Rattle.algebra.specs.Polynomials.{ev, coefficient}
 use Rattle.algebra.proofs.Orders.{row-end}
-use Rattle.algebra.proofs.Lists.{length-tab, getD-tab}
+use Rattle.algebra.proofs.Lists.{length-tab, getD-tab, getD-map}
 use Rattle.algebra.proofs.Grids.{grid-cong}
 use Rattle.algebra.proofs.Stacks.{stack-cong, stack-tab, grid-tab, stack-grid}
 use Rattle.algebra.proofs.Modular.{≈-trans, ≈-of-eq}
@@ -33,8 +33,8 @@ use Rattle.product.specs.Product.{productEntry, productOf}
 use Rattle.heard.specs.Heard.{isHeard}
 use Rattle.arrival.specs.Arriving.{answerLength, blockAt}
 use Rattle.decode.specs.Decoding.{answerEntry, chosen, tableEntry, blocks, tableOf}
+use Rattle.decode.proofs.Chosen.{Chosen, chosen-hosts}
 use Rattle.promise.specs.Demand3.{Task, Accepted}
-use Rattle.promise.proofs.ExactHosts.{getD-map, Chosen, chosen-hosts}
 use Rattle.promise.proofs.ExactAnswers.{answerOf, coefficients, answer-is, place-is}
 
 -- ---- blocks as one matrix

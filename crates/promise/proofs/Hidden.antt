@@ -12,7 +12,9 @@ use native.Mathlib.Omega.{arith}
 use lib.ListN.{length, getD, length-map}
 use Rattle.algebra.specs.Lists.{AllBelow}
 use Rattle.algebra.specs.Sets.{members, size}
+use Rattle.algebra.proofs.Lists.{getD-map}
 use Rattle.algebra.proofs.Sets.{members-has, members-below, members-distinct}
+use Rattle.algebra.proofs.Places.{pointsAt, points-each, points-apart}
 use Rattle.layout.specs.Exponents.{Exponents, exponents, term}
 use Rattle.layout.specs.Sound.{Sound}
 use Rattle.layout.proofs.Soundness.{sound}
@@ -24,7 +26,6 @@ use Rattle.share.specs.declared.Matrix.the-variants.{A, B}
 use Rattle.share.specs.Sharing.{side, shareOf, point, hostShare}
 use Rattle.message.specs.Format.{messageOf}
 use Rattle.promise.specs.Demand3.{Task, Accepted, SamePublic, Masks, Hidden, publicNumbers, largest, matrix, headerFor, shareHeader, shareMessage}
-use Rattle.promise.proofs.Places.{pointsAt, getD-points, points-each, points-apart}
 use Rattle.promise.proofs.Solvable.{Solvable, solvable-powers}
 use Rattle.promise.proofs.Matching.{MasksFor, Matched, matched}
 
@@ -85,7 +86,7 @@ module _ (points : List ℕ) (g : ℕ → Bool) (n : ℕ) where
   group-has i h t =
       let at = members-has g n i h t in
       let own : getD (members g n) (at .0) 0 ≡ suc i - 1 = omega (arith, at .2) in
-      (at .0, omega (arith, at .1, length-group), getD-points points (members g n) (at .0) (at .1) ∙ ap (λ (k : ℕ). getD points k 0) own)
+      (at .0, omega (arith, at .1, length-group), getD-map (λ h. getD points h 0) (members g n) (at .0) (at .1) ∙ ap (λ (k : ℕ). getD points k 0) own)
 
 -- what mask y of a matrix is multiplied by at point k of a group
 maskWeight : Matrix → Job → List ℕ → ℕ → ℕ → ℕ

@@ -47,6 +47,14 @@ pub const VERSION: u32 = 19;
 
 pub const MESSAGE_LENGTH: u32 = 20;
 
+pub const HEARD_ABOVE: u32 = 21;
+
+pub const FOREIGN: u32 = 22;
+
+pub const HEARD: u32 = 23;
+
+pub const TOO_FEW: u32 = 24;
+
 pub const SIGNED: u32 = 25;
 
 pub const TEXT: u32 = 26;
