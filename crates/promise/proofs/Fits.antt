@@ -7,9 +7,9 @@
 --   FitMessage         what a fit message has: its host's place is below N, and its elements fill a block and are below q
 --   fit-message        a fit message has it
 use mathlib.Core.Path.{_≡_, refl, sym, ap, ap₂, _∙_, subst}
-use mathlib.Core.Bool.{Bool, true, false, not, _||_}
+use mathlib.Core.Bool.{false, not, _||_}
 use mathlib.Core.List.{List, [], _∷_, _++_, append-assoc}
-use Prim.Native.Nat.{ℕ, _+_, _-_, _*_, _^_, _<_, _≤_}
+use Prim.Native.Nat.{ℕ, _+_, _-_, _*_, _^_, _<_}
 use native.Mathlib.Omega.{arith}
 use lib.Dec.{T, eqb, ltb}
 use lib.ListN.{length}
@@ -18,7 +18,7 @@ use Rattle.algebra.specs.Lists.{AllBelow}
 use Rattle.algebra.proofs.Lists.{all-below-test}
 use Rattle.algebra.proofs.Tests.{or-left, or-right, equal}
 use Rattle.refusal.specs.Chain.{Row, first, except}
-use Rattle.refusal.proofs.Chains.{numbered, numbered-append, first-miss, first-append, first-append-clear, first-clear, inside-low}
+use Rattle.refusal.proofs.Chains.{numbered, numbered-append, first-miss, first-append, first-append-clear, first-clear}
 use Rattle.refusal.proofs.Except.{except-append, except-numbered, except-clear}
 use Rattle.plan.specs.Planning.{prime, blockRows, blockColumns, planTests}
 use Rattle.plan.proofs.Facts.{facts}

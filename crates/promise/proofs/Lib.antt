@@ -12,5 +12,5 @@ pub mod Blocks
 pub mod Trace
 pub mod Made
 pub mod Yet
-pub mod Demand3
 pub mod WholeNumbers
+pub mod Demand3

@@ -9,16 +9,16 @@
 --   share-written      so is writing a share's message
 --   product-done, product-written  the same of an answer
 --   made               the messages of demand 3 are what these calls give
-use mathlib.Core.Path.{_≡_, refl, sym, ap, ap₂, _∙_}
-use mathlib.Core.Bool.{Bool, true, false, not, _||_}
+use mathlib.Core.Path.{_≡_, ap, ap₂, _∙_}
+use mathlib.Core.Bool.{false, not, _||_}
 use mathlib.Core.Logic.{⊎-elim}
-use mathlib.Core.List.{List, [], _∷_, _++_}
+use mathlib.Core.List.{List}
 use Prim.Native.Nat.{ℕ, suc, _+_, _*_, _/_, _%_, _<_, _≤_}
 use native.Mathlib.Nat.{mul-le-mul-left, mul-le-mul-right, div-add-mod, mod-lt}
 use native.Mathlib.Omega.{arith}
 use lib.ListN.{length}
 use borrow.Author.Tests.{le-ltb}
-use Rattle.algebra.specs.Lists.{AllBelow, allBelow}
+use Rattle.algebra.specs.Lists.{AllBelow}
 use Rattle.algebra.proofs.Orders.{le-or-lt}
 use Rattle.algebra.proofs.Tests.{alike}
 use Rattle.algebra.proofs.Lists.{below-test}
@@ -34,12 +34,11 @@ use Rattle.plan.proofs.Facts.{Fits, facts}
 use Rattle.plan.proofs.Then.{then-own}
 use Rattle.share.specs.declared.Matrix.{Matrix}
 use Rattle.share.specs.declared.Matrix.the-variants.{A, B}
-use Rattle.share.specs.declared.Side.{Side}
 use Rattle.share.specs.Sharing.{side, shareOf, hostShare, blockLength, matrixLength, maskLength, ownTests, shareTests, shareAfter}
 use Rattle.share.specs.Sharing.{lengthTest as Sharing·lengthTest}
 use Rattle.product.specs.Product.{productOf, lengthTest, productTests, productAfter}
 use Rattle.message.specs.declared.Header.{Header}
-use Rattle.message.specs.Format.{messageOf, elementCount, kindTest, hostTest, sizeTest, blockTest, fieldTests, elementTest, writeTests, written}
+use Rattle.message.specs.Format.{elementCount, kindTest, hostTest, sizeTest, blockTest, fieldTests, elementTest, writeTests, written}
 use Rattle.message.proofs.Fields.{inside, writes}
 use Rattle.message.proofs.Answers.{written-done}
 use Rattle.promise.specs.Demand3.{Task, Accepted, Masks, Made, matrix, kindOf, headerFor, shareHeader, answerHeader, shareMessage, trueProduct}

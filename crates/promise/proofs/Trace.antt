@@ -7,7 +7,7 @@
 --   ran            every list of calls does that
 --   replies-at     the reply to a call in the middle of a list is the one in the state that the calls before it leave
 use mathlib.Core.Path.{_≡_, refl, sym, ap, _∙_, subst}
-use mathlib.Core.Bool.{Bool, true, false, cond, not, _&&_, _||_, true≢false}
+use mathlib.Core.Bool.{Bool, true, false, cond, _&&_, _||_, true≢false}
 use mathlib.Core.Logic.{⊎-elim}
 use mathlib.Core.List.{List, [], _∷_, _++_}
 use Prim.Native.Nat.{ℕ, zero, suc, _+_, _*_, _^_, _<_, _≤_}
@@ -19,14 +19,14 @@ use borrow.Author.Tests.{eqb-true, eqb-false, eq-eqb}
 use Rattle.algebra.specs.Lists.{AllBelow}
 use Rattle.algebra.proofs.Tests.{by-test}
 use Rattle.refusal.specs.Chain.{first, answer}
-use Rattle.refusal.proofs.Chains.{first-none, first-hit, first-miss, first-append, first-append-hit, numbered-append}
+use Rattle.refusal.proofs.Chains.{first-none, first-hit, first-miss, first-append, first-append-hit}
 use Rattle.plan.specs.Planning.{prime}
 use Rattle.message.specs.Format.{elements}
 use Rattle.heard.specs.Heard.{isHeard, withPlace}
 use Rattle.heard.proofs.Bits.{with-own, with-other, with-below}
 use Rattle.arrival.specs.declared.Arrived.the-variants.{Taken, Refused}
 use Rattle.arrival.specs.Arriving.{answerLength, storeLength, blockAt, withBlock, place, arrivalTests, arrived, storeAfter, heardAfter}
-use Rattle.promise.specs.Demand3.{Task, Accepted, Call, arrival, decoding, State, Reply, unanswered, after, reply, run, replies, fit, fitFor, hasFit, bytes, firstFit}
+use Rattle.promise.specs.Demand3.{Task, Accepted, Call, arrival, decoding, State, unanswered, after, reply, run, replies, fit, fitFor, hasFit, bytes, firstFit}
 use Rattle.promise.proofs.Fits.{core, fit-core, arrival-core, core-numbered, FitMessage, fit-message}
 use Rattle.promise.proofs.Blocks.{length-with, block-own, block-other}
 

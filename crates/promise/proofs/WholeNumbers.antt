@@ -1,22 +1,22 @@
 -- The product modulo q as whole numbers (01, "Signed reading").
 --
 --   whole-numbers    AB modulo q tells the exact entries of AB
-use mathlib.Core.Path.{_≡_, sym, ap, _∙_, subst}
+use mathlib.Core.Path.{_≡_, sym, ap, _∙_}
 use mathlib.Core.List.{List}
-use Prim.Native.Nat.{ℕ, _*_, _%_, _<_, _≤_}
-use native.Mathlib.Nat.{mul-le-mul, mul-le-mul-right}
+use Prim.Native.Nat.{ℕ, _+_, _*_, _%_, _<_, _≤_}
+use native.Mathlib.Nat.{mul-le-mul, mod-eq-of-lt, le-of-suc-le-suc}
 use native.Mathlib.Omega.{arith}
 use lib.IntN.{pos}
+use lib.ListN.{getD}
 use Rattle.algebra.specs.Lists.{entry, AllBelow}
-use Rattle.algebra.specs.Sums.{sum}
 use Rattle.algebra.proofs.Lists.{below-anywhere}
 use Rattle.algebra.proofs.Grids.{entry-grid}
 use Rattle.algebra.proofs.Sums.{sum-bound}
 use Rattle.plan.specs.Planning.{prime}
 use Rattle.plan.proofs.Facts.{Fits, facts}
 use Rattle.product.specs.Product.{productEntry, productOf}
-use Rattle.signed.specs.Signed.{Exact}
-use Rattle.signed.proofs.Exact.{exact}
+use Rattle.signed.specs.Signed.{signed, Exact}
+use Rattle.signed.proofs.Exactness.{exact}
 use Rattle.promise.specs.Demand3.{Task, Accepted}
 use Rattle.promise.specs.WholeNumbers.{exactEntry, WholeNumbers}
 
@@ -25,7 +25,7 @@ module _ (x : Task) (ok : Accepted x) where
   fits = facts (x .numbers) (x .points) (ok .planned) .fits
 
   holds : Exact (prime (x .numbers))
-  holds = exact (prime (x .numbers)) (fits .known .is-prime .above-one) (fits .known .odd)
+  holds = exact (prime (x .numbers)) (fits .known .is-prime .above-one)
 
   product : List ℕ
   product = productOf (prime (x .numbers)) (x .numbers .t) (x .numbers .s) (x .numbers .r) (x .a) (x .b)
@@ -40,8 +40,11 @@ module _ (x : Task) (ok : Accepted x) where
       → productEntry (x .numbers .s) (x .numbers .r) (x .a) (x .b) u v < prime (x .numbers)
   unfolding productEntry entry
   small e ha hb u v =
-      let bound = sum-bound (x .numbers .s) 4 _ (λ l h. mul-le-mul (let k = below-anywhere 3 (x .a) (omega arith) ha (u * x .numbers .s + l) in omega arith) (let k = below-anywhere 3 (x .b) (omega arith) hb (l * x .numbers .r + v) in omega arith)) in
-      omega (arith, e, bound, fits .ranged .s .high)
+      let each = sum-bound (x .numbers .s) 4 _ (λ l h.
+      let a : getD (x .a) (u * x .numbers .s + l) 0 ≤ 2 = le-of-suc-le-suc (below-anywhere 3 (x .a) (omega arith) ha (u * x .numbers .s + l)) in
+      let b : getD (x .b) (l * x .numbers .r + v) 0 ≤ 2 = le-of-suc-le-suc (below-anywhere 3 (x .b) (omega arith) hb (l * x .numbers .r + v)) in
+      mul-le-mul a b) in
+      omega (arith, e, each, fits .ranged .s .high)
 
   pub whole-numbers : WholeNumbers x (productOf (prime (x .numbers)) (x .numbers .t) (x .numbers .s) (x .numbers .r) (x .a) (x .b))
   unfolding product exactEntry productEntry

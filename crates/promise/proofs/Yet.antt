@@ -8,36 +8,37 @@ use mathlib.Core.Path.{_≡_, refl, sym, ap, ap₂, _∙_, subst}
 use mathlib.Core.Bool.{Bool, true, false, cond, not, _&&_, _||_}
 use mathlib.Core.Logic.{_↔_, ⊎-elim}
 use mathlib.Core.List.{List, [], _∷_, _++_}
-use Prim.Native.Nat.{ℕ, zero, suc, _+_, _-_, _*_, _^_, _<_, _≤_}
+use Prim.Native.Nat.{ℕ, zero, suc, _+_, _-_, _^_, _<_, _≤_}
 use native.Mathlib.Nat.{lt-suc-self}
 use native.Mathlib.Omega.{arith}
 use lib.Count.{ones}
-use lib.Dec.{eqb, ltb}
+use lib.Dec.{ltb}
 use lib.ListN.{length, getD}
 use lib.Pow.{pow-pos}
 use borrow.Author.Tests.{eq-eqb, ltb-false, le-ltb, lt-leb}
 use Rattle.algebra.specs.Lists.{AllBelow, allBelow}
-use Rattle.algebra.specs.Sets.{members, size}
+use Rattle.algebra.specs.Sets.{size}
 use Rattle.algebra.proofs.Sets.{members-cong}
 use Rattle.algebra.proofs.Lists.{below-test}
 use Rattle.algebra.proofs.Tests.{by-test, alike}
 use Rattle.refusal.specs.Chain.{Row, first}
-use Rattle.refusal.proofs.Chains.{first-none, first-miss, first-clear, first-append}
+use Rattle.refusal.proofs.Chains.{first-none, first-miss, first-clear, first-append, answer-done}
 use Rattle.plan.specs.Planning.{prime, blockRows, blockColumns, neededOf}
 use Rattle.plan.proofs.Then.{then-own}
-use Rattle.share.specs.declared.Matrix.the-variants.{A, B}
 use Rattle.message.specs.declared.Header.{Header}
-use Rattle.message.specs.Format.{messageOf, headerOf, elements, elementCount, messageTests}
+use Rattle.message.specs.Format.{messageOf, headerOf, elements, messageTests}
 use Rattle.message.specs.RoundTrips.{ReadsBack}
 use Rattle.message.proofs.RoundTrips.{reads-back}
 use Rattle.heard.specs.Heard.{isHeard, someAbove}
 use Rattle.heard.proofs.Bits.{none-heard, ones-size}
 use Rattle.arrival.specs.Arriving.{answerLength, storeLength, blockAt, place, foreign}
-use Rattle.decode.specs.Decoding.{tableLength, heardBelow, decodeTests}
-use Rattle.promise.specs.Demand3.{Task, Accepted, Masks, State, matrix, arrival, fitFor, answerHeader, headerFor, trueProduct}
+use Rattle.product.specs.Product.{productOf}
+use Rattle.decode.specs.Decoding.{tableOf, tableLength, heardBelow, decodeTests, tableAfter}
+use Rattle.promise.specs.Demand3.{Task, Accepted, Call, arrival, decoding, State, Reply, unanswered, reply, run, replies, matrix, fitFor, hasFit, firstFit, begin, answerHeader, headerFor, trueProduct, Trace}
 use Rattle.promise.proofs.Fits.{core, others, fit-core, message-numbered}
 use Rattle.promise.proofs.Made.{answer, share, answer-written}
-use Rattle.promise.proofs.Trace.{Good}
+use Rattle.promise.proofs.Trace.{Good, Ran, ran, replies-at}
+use Rattle.promise.proofs.Exact.{exact, answerBlock}
 
 module _ (x : Task) (ok : Accepted x) (ma mb : List ℕ) (i : ℕ) (low : i < x .numbers .hosts) where
   message : List ℕ
@@ -109,8 +110,82 @@ module _ (x : Task) (ok : Accepted x) (s : State) (good : Good x s)
       ↔ (neededOf (x .numbers) ≤ size (isHeard (s .heard)) (x .numbers .hosts))
   carried-out =
       let count = ones-size (s .heard) (x .numbers .hosts) (good .none-above) in
-      let few = ltb (ones (s .heard)) (neededOf (x .numbers)) in
-      (
+      let few = ltb (ones (s .heard)) (neededOf (x .numbers)) in (
         (λ e. omega (arith, count, ltb-false (ones (s .heard)) (neededOf (x .numbers)) (first-clear few 23 [] (sym decode-number ∙ e) .0))),
         (λ l. decode-number ∙ first-miss few 24 [] (le-ltb (ones (s .heard)) (neededOf (x .numbers)) (omega (arith, count))) ∙ first-none),
       )
+
+module _ (x : Task) (ok : Accepted x) (ma mb store : List ℕ) (room : length store ≡ storeLength (x .numbers)) where
+  start : Good x (begin store)
+  unfolding begin
+  start = record { none-above = pow-pos (x .numbers .hosts); room = room }
+
+  ran-from : (calls : List Call) → Ran x (begin store) calls
+  ran-from calls = ran x ok calls (begin store) start
+
+  heard-is : (calls : List Call) (i : ℕ) → isHeard (run x (begin store) calls .heard) i ≡ hasFit x (begin store) calls i
+  unfolding begin
+  heard-is calls i = ran-from calls .heard i ∙ ap (λ (t : Bool). t || hasFit x (begin store) calls i) (none-heard i)
+
+  -- the block of a host heard is its first fit message's
+  block-is : (calls : List Call) (i : ℕ) → isHeard (run x (begin store) calls .heard) i ≡ true
+      → blockAt (answerLength (x .numbers)) (run x (begin store) calls .store) i ≡ elements (firstFit x (begin store) calls i)
+  unfolding begin
+  block-is calls i e = ran-from calls .new i (none-heard i) (sym (heard-is calls i) ∙ e)
+
+  block-below : (calls : List Call) (i : ℕ) → isHeard (run x (begin store) calls .heard) i ≡ true
+      → AllBelow (prime (x .numbers)) (blockAt (answerLength (x .numbers)) (run x (begin store) calls .store) i)
+  block-below calls i e =
+      subst (λ (xs : List ℕ). AllBelow (prime (x .numbers)) xs) (sym (block-is calls i e)) (ran-from calls .below i (sym (heard-is calls i) ∙ e))
+
+  -- as many are heard as have a fit message
+  count-is : (calls : List Call) → size (isHeard (run x (begin store) calls .heard)) (x .numbers .hosts) ≡ size (hasFit x (begin store) calls) (x .numbers .hosts)
+  unfolding size
+  count-is calls = ap length (members-cong _ _ (x .numbers .hosts) (λ i l. heard-is calls i))
+
+  module _ (before rest : List Call) (table : List ℕ) (exact-length : length table ≡ tableLength (x .numbers)) where
+    state : State
+    state = run x (begin store) before
+
+    decides : (first (decodeTests (x .numbers) (x .points) (state .heard) (state .store) (length table)) ≡ 0)
+        ↔ (neededOf (x .numbers) ≤ size (isHeard (state .heard)) (x .numbers .hosts))
+    unfolding state
+    decides = carried-out x ok state (ran-from before .good) (block-below before) table exact-length
+
+    reply-is : (calls : List Call) → calls ≡ before ++ (decoding table ∷ rest)
+        → getD (replies x (begin store) calls) (length before) unanswered ≡ reply x state (decoding table)
+    unfolding state
+    reply-is calls e =
+        ap (λ (cs : List Call). getD (replies x (begin store) cs) (length before) unanswered) e ∙ replies-at x ok before rest (decoding table) (begin store)
+
+    decides-fit : (calls : List Call) → calls ≡ before ++ (decoding table ∷ rest)
+        → (getD (replies x (begin store) calls) (length before) unanswered .number ≡ 0)
+        ↔ (neededOf (x .numbers) ≤ size (hasFit x (begin store) before) (x .numbers .hosts))
+    unfolding state reply
+    decides-fit calls e =
+        let told : getD (replies x (begin store) calls) (length before) unanswered .number ≡ first (decodeTests (x .numbers) (x .points) (state .heard) (state .store) (length table))
+        = ap (λ (r : Reply). r .number) (reply-is calls e) in (
+          (λ z. subst (λ (n : ℕ). neededOf (x .numbers) ≤ n) (count-is before) (decides .0 (sym told ∙ z))),
+          (λ l. told ∙ decides .1 (subst (λ (n : ℕ). neededOf (x .numbers) ≤ n) (sym (count-is before)) l)),
+        )
+
+    table-is : (calls : List Call) → calls ≡ before ++ (decoding table ∷ rest)
+        → neededOf (x .numbers) ≤ size (hasFit x (begin store) before) (x .numbers .hosts)
+        → ((i : ℕ) → i < x .numbers .hosts → hasFit x (begin store) before i ≡ true → firstFit x (begin store) before i ≡ trueProduct x (suc i) ma mb)
+        → getD (replies x (begin store) calls) (length before) unanswered .table
+        ≡ productOf (prime (x .numbers)) (x .numbers .t) (x .numbers .s) (x .numbers .r) (x .a) (x .b)
+    unfolding state reply tableAfter answerBlock answer share matrix
+    table-is calls e enough true-first =
+        let many = subst (λ (n : ℕ). neededOf (x .numbers) ≤ n) (sym (count-is before)) enough in
+        ap (λ (r : Reply). r .table) (reply-is calls e)
+        ∙ answer-done (tableOf (x .numbers) (x .points) (state .heard) (state .store)) (λ n. table) _ (decides .1 many)
+        ∙ exact x ok ma mb (state .heard) (state .store) many (λ h l is-heard.
+        block-is before h is-heard ∙ ap elements (true-first h l (sym (heard-is before h) ∙ is-heard)) ∙ elements-true x ok ma mb h l)
+
+  pub yet : (calls : List Call) → Trace x ma mb store calls
+  yet calls = record {
+    heard = heard-is calls;
+    none-above = ran-from calls .good .none-above;
+    carried-out = λ before rest table e exact-length. decides-fit before rest table exact-length calls e;
+    exact = λ before rest table e exact-length. table-is before rest table exact-length calls e;
+  }

@@ -28,7 +28,7 @@ use lib.Dec.{eqb}
 use lib.ListN.{length, getD}
 use Rattle.algebra.specs.Lists.{AllBelow}
 use Rattle.algebra.specs.Sets.{size}
-use Rattle.refusal.specs.Chain.{Row, first, except}
+use Rattle.refusal.specs.Chain.{first, except}
 use Rattle.plan.specs.declared.Job.{Job}
 use Rattle.plan.specs.Planning.{prime, blockRows, blockInner, blockColumns, neededOf, planOf, planTests}
 use Rattle.share.specs.declared.Matrix.{Matrix}

@@ -1,3 +1,4 @@
 -- Promises over the definitions that the contracts cite.
 pub mod Starred
 pub mod Demand3
+pub mod WholeNumbers
