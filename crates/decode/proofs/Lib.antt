@@ -1,2 +1,3 @@
 -- Laws of decoding.
 pub mod Chosen
+pub mod Stored
