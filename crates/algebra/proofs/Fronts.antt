@@ -4,14 +4,19 @@
 --   front-old                 past the front stands what stood there
 --   front-all                 a front of the whole length
 --   front-rest                what stands past the front is what f has there
-use mathlib.Core.Path.{_≡_, refl, sym, ap, _∙_}
+--
+-- A list that a loop goes through from its end.
+--
+--   drop-back                 one element before what was passed
+--   back-none, back-more      a loop makes the list from the back, one by one
+use mathlib.Core.Path.{_≡_, refl, sym, ap, ap₂, _∙_}
 use mathlib.Core.Logic.{⊎-elim}
-use mathlib.Core.List.{List, _++_, append-nil}
+use mathlib.Core.List.{List, _∷_, _++_, append-nil}
 use Prim.Native.Nat.{ℕ, suc, _+_, _-_, _<_, _≤_}
 use native.Mathlib.Numerals.{add-one}
 use native.Mathlib.Omega.{arith}
-use lib.ListN.{length, getD, drop, set, length-append, length-drop, drop-of-length-le, List·getD-append}
-use lib.Seq.{drop-cons, set-at, append-snoc, getD-append-add, getD-drop, ext-getD}
+use lib.ListN.{length, getD, drop, set, length-append, length-drop, length-set, drop-of-length-le, List·getD-append}
+use lib.Seq.{drop-cons, drop-set-lt, set-at, getD-set-same, append-snoc, getD-append-add, getD-drop, ext-getD}
 use Rattle.algebra.specs.Lists.{tab}
 use Rattle.algebra.proofs.Orders.{le-or-lt}
 use Rattle.algebra.proofs.Lists.{length-tab, getD-tab}
@@ -56,3 +61,22 @@ module _ (f : ℕ → ℕ) where
       (λ (front : i < n).
       List·getD-append (tab f n) (drop n xs) 0 i (omega (arith, length-tab f n)) ∙ getD-tab f n i 0 front ∙ sym (getD-tab f (length xs) i 0 within))
       (le-or-lt n i))
+
+pub drop-back : (xs : List ℕ) (i : ℕ) → 0 < i → i ≤ length xs → drop (i - 1) xs ≡ getD xs (i - 1) 0 ∷ drop i xs
+drop-back xs i pos h =
+    let next : suc (i - 1) ≡ i = omega arith in
+    drop-cons xs (i - 1) 0 (omega arith) ∙ ap (λ (k : ℕ). getD xs (i - 1) 0 ∷ drop k xs) next
+
+module _ (f : ℕ → ℕ) where
+  pub back-none : (xs : List ℕ) (n : ℕ) → length xs ≡ n → drop n xs ≡ drop n (tab f n)
+  back-none xs n same =
+      drop-of-length-le xs {i = n} (omega arith) ∙ sym (drop-of-length-le (tab f n) {i = n} (omega (arith, length-tab f n)))
+
+  pub back-more : (xs : List ℕ) (n e : ℕ) → length xs ≡ n → 0 < e → e ≤ n → drop e xs ≡ drop e (tab f n)
+      → drop (e - 1) (set xs (e - 1) (f (e - 1))) ≡ drop (e - 1) (tab f n)
+  back-more xs n e same pos h is =
+      let here : getD (set xs (e - 1) (f (e - 1))) (e - 1) 0 ≡ getD (tab f n) (e - 1) 0
+      = getD-set-same xs (e - 1) (f (e - 1)) 0 (omega arith) ∙ sym (getD-tab f n (e - 1) 0 (omega arith)) in
+      drop-back (set xs (e - 1) (f (e - 1))) e pos (omega (arith, length-set xs (e - 1) (f (e - 1))))
+      ∙ ap₂ (λ (y : ℕ) (ys : List ℕ). y ∷ ys) here (drop-set-lt e xs (e - 1) (f (e - 1)) (omega arith) ∙ is)
+      ∙ sym (drop-back (tab f n) e pos (omega (arith, length-tab f n)))

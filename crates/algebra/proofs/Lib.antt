@@ -10,6 +10,7 @@ pub mod Primes
 pub mod Inverses
 pub mod Sums
 pub mod Polynomials
+pub mod Division
 pub mod Interpolation
 pub mod Sets
 pub mod Places

@@ -1,0 +1,2 @@
+-- Lagrange's basis polynomials by division.
+pub mod Basis
