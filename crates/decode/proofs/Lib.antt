@@ -1,3 +1,4 @@
 -- Laws of decoding.
 pub mod Chosen
 pub mod Stored
+pub mod Pieces

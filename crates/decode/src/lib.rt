@@ -1,15 +1,36 @@
 // Decoding: the table is interpolated from the answers of the K lowest-numbered hosts heard.
 ghost use mathlib.Core.Path.{_≡_};
-ghost use Prim.Native.Nat.{_*_, _≤_};
-ghost use lib.ListN.{length};
+ghost use mathlib.Core.List.{map};
+ghost use Prim.Native.Nat.{_+_, _*_, _%_, _^_, _<_, _≤_};
+ghost use lib.ListN.{length, getD};
+ghost use Rattle.algebra.specs.Lists.{tab, grid, AllBelow};
 ghost use Rattle.refusal.specs.Chain.{first};
 ghost use Rattle.field.specs.Modulus.{prime};
 ghost use Rattle.decode.specs.Decoding.{heardBelow};
-ghost use Rattle.decode.specs.Weights.{Limited, ownTests};
+ghost use Rattle.decode.specs.Weights.{
+  ownTests,
+  Limited,
+  pieceCount,
+  answerTerms,
+  There,
+  pieceSum,
+  Ready,
+};
 use field::Modulus;
 use plan::Job;
 use plan::Plan;
 use refusal::either;
+
+// The table: down by across blocks, each rows by columns.
+struct Shape {
+    down: usize,
+    across: usize,
+    rows: usize,
+    columns: usize,
+}
+
+// The most columns of a block.
+const MOST_COLUMNS: usize = 4096;
 
 // The blocks of the hosts heard have elements below the prime; other blocks are not looked at.
 fn heard_below(modulus: Modulus, size: usize, heard: u64, store: &[u32], hosts: u32) -> bool
@@ -52,4 +73,110 @@ fn own_refusal(job: Job, plan: Plan, heard: u64, store: &[u32], room: usize) -> 
         return refusal::ELEMENT;
     }
     0
+}
+
+// The points of the hosts at some places.
+fn points_at(points: &[u32], places: &[u32], out: &mut [u32])
+    requires { ⌜ AllBelow (length (now points)) (now places) × length (now out) ≡ length (now places) ⌝ }
+    ensures { λ _. ⌜ now (out .exit) ≡ map (λ h. getD (now (points .entry)) h 0) (now (places .entry)) ⌝ }
+{
+    let mut c = 0;
+    while c < places.len() {
+        let place = places[c] as usize;
+        out[c] = points[place];
+        c += 1;
+    }
+}
+
+// Adds to the sums the rows of the answers at some places, each times its weight. The weights lie a step apart, the answers a
+// size.
+fn add_answers(
+    sums: &mut [u64],
+    weights: &[u32],
+    step: usize,
+    places: &[u32],
+    source: &[u32],
+    size: usize,
+)
+    requires { ⌜ There (now weights) step (now places) (now source) size ⌝ }
+    ensures { λ _. ⌜ now (sums .exit)
+        ≡ tab (λ v. (getD (now (sums .entry)) v 0 + answerTerms (now (weights .entry)) step (now (places .entry)) (now (source .entry)) size v) % 2 ^ 64) (length (now (sums .entry))) ⌝ }
+{
+    let mut c = 0;
+    while c < places.len() {
+        let at = c * step;
+        let start = places[c] as usize * size;
+        rows::add_row(sums, weights[at], &source[start..]);
+        c += 1;
+    }
+}
+
+// A piece of the table, from the weights of its block and the answers' rows that are its own. There is a sum for each element.
+fn table_piece(
+    modulus: Modulus,
+    s: Shape,
+    piece: usize,
+    places: &[u32],
+    weights: &[u32],
+    store: &[u32],
+    sums: &mut [u64],
+    out: &mut [u32],
+)
+    requires { ⌜ Ready (prime modulus) s (now places) (now weights) (now store)
+        × piece < pieceCount s
+        × length (now sums) ≡ s .columns
+        × length (now out) ≡ s .columns ⌝ }
+    ensures { λ _. ⌜ now (out .exit)
+        ≡ tab (λ v. pieceSum s (now (places .entry)) (now (weights .entry)) (now (store .entry)) piece v % prime modulus) (s .columns) ⌝ }
+{
+    let across = s.across;
+    let rows = s.rows;
+    let columns = s.columns;
+    let row = piece / across;
+    let block = row / rows * across + piece % across;
+    let from = row % rows * columns;
+    rows::clear(sums);
+    add_answers(
+        sums,
+        &weights[block..],
+        s.down * across,
+        places,
+        &store[from..],
+        rows * columns,
+    );
+    rows::reduce_row(modulus, sums, out);
+}
+
+// The table, piece by piece.
+fn table_pieces(
+    modulus: Modulus,
+    s: Shape,
+    places: &[u32],
+    weights: &[u32],
+    store: &[u32],
+    table: &mut [u32],
+)
+    requires { ⌜ Ready (prime modulus) s (now places) (now weights) (now store) × length (now table) ≡ pieceCount s * s .columns ⌝ }
+    ensures { λ _. ⌜ now (table .exit)
+        ≡ grid (λ w v. pieceSum s (now (places .entry)) (now (weights .entry)) (now (store .entry)) w v % prime modulus) (pieceCount s) (s .columns) ⌝ }
+{
+    let columns = s.columns;
+    let count = s.down * s.rows * s.across;
+    let mut sums = [0u64; MOST_COLUMNS];
+    let mut piece = 0;
+    while piece < count {
+        let start = piece * columns;
+        let end = start + columns;
+        table_piece(
+            modulus,
+            s,
+            piece,
+            places,
+            weights,
+            store,
+            &mut sums[..columns],
+            &mut table[start..end],
+        );
+        piece += 1;
+    }
 }
