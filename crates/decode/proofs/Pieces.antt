@@ -2,9 +2,12 @@
 --
 --   Placed s w       piece w: its block and its row are within the table's
 --   placed           so is each piece
+--   few-pieces       how many rows and pieces a table has at most
 --   sumsTo           each sum with the terms of the first c hosts, in 64 bits
 --   sums-none, sums-more   no host, and one more
---   answer-row       the row of an answer from its start on
+--   rest-is          a list from some place on, up to its end
+--   piece-there      the weights and the answers of a piece are there
+--   piece-exact      cleared sums with all the terms: reduced, they are the piece
 --   blocks-pieces    a table that is made block by block, as pieces
 use mathlib.Core.Path.{_≡_, refl, sym, ap, ap₂, _∙_}
 use mathlib.Core.List.{List}
@@ -18,7 +21,7 @@ use lib.Seq.{getD-take, getD-drop, take-all, ext-getD}
 use Rattle.algebra.specs.Lists.{tab, stack, grid, entry, AllBelow}
 use Rattle.algebra.specs.Sums.{sum}
 use Rattle.algebra.proofs.Orders.{row-end}
-use Rattle.algebra.proofs.Lists.{length-tab, getD-tab, below-anywhere}
+use Rattle.algebra.proofs.Lists.{length-tab, getD-tab, below-anywhere, below-drop}
 use Rattle.algebra.proofs.Grids.{tab-cong, grid-cong}
 use Rattle.algebra.proofs.Stacks.{stack-cong, stack-grid}
 use Rattle.algebra.proofs.Sums.{sum-bound}
@@ -27,16 +30,16 @@ use Rattle.field.specs.Modulus.{prime}
 use Rattle.field.proofs.Moduli.{prime-prime, sums-fit}
 use Rattle.rows.specs.Combination.{zeros, plus, reduced}
 use Rattle.rows.proofs.Exact.{reduced-tab}
+use Rattle.arrival.specs.Arriving.{blockAt}
 use Rattle.decode.specs.declared.Shape.{Shape}
 use Rattle.decode.specs.Decoding.{blocks}
-use Rattle.decode.specs.Weights.{Small, blockCount, blockLength, pieceCount, pieceBlock, pieceRow, pieceSum, Ready}
+use Rattle.decode.specs.Weights.{Small, blockCount, blockLength, pieceCount, pieceBlock, pieceRow, answerTerms, There, pieceSum, Ready}
 
 -- ---- where it lies
 
 pub record Placed (s : Shape) (w : ℕ) : Type 0 where
   pub tall : w / s .across < s .down * s .rows
   pub high : s .down * s .rows ≤ 32768
-  pub wide : pieceCount s ≤ 262144
   pub left : w / s .across / s .rows * s .across + s .across ≤ blockCount s
   pub column : w % s .across < s .across
   pub block : pieceBlock s w < blockCount s
@@ -44,18 +47,22 @@ pub record Placed (s : Shape) (w : ℕ) : Type 0 where
   pub row : pieceRow s w * s .columns + s .columns ≤ blockLength s
   pub size : blockLength s ≤ 4096
 
+pub few-pieces : (s : Shape) → Small s → (s .down * s .rows ≤ 32768) × (pieceCount s ≤ 262144)
+unfolding pieceCount
+few-pieces s small =
+    let high : s .down * s .rows ≤ 8 * 4096 = mul-le-mul (small .down) (small .rows) in
+    (high, mul-le-mul high (small .across))
+
 pub placed : (s : Shape) (w : ℕ) → Small s → w < pieceCount s → Placed s w
 unfolding pieceCount blockCount blockLength pieceBlock pieceRow
 placed s w small h =
     let tall : w / s .across < s .down * s .rows = div-lt-iff-lt-mul (small .split) .1 h in
     let down : w / s .across / s .rows < s .down = div-lt-iff-lt-mul (small .tall) .1 tall in
-    let high : s .down * s .rows ≤ 8 * 4096 = mul-le-mul (small .down) (small .rows) in
     let left = row-end (s .across) down in
     let column : w % s .across < s .across = mod-lt w (small .split) in
     record {
       tall = tall;
-      high = high;
-      wide = mul-le-mul high (small .across);
+      high = few-pieces s small .0;
       left = left;
       column = column;
       block = omega (arith, left, column);
@@ -95,3 +102,63 @@ module _ (sums : List ℕ) (f : ℕ → ℕ → ℕ) where
 -- a list from some place on, up to its end
 pub rest-is : (xs : List ℕ) (k : ℕ) → take (length xs - k) (drop k xs) ≡ drop k xs
 rest-is xs k = take-all (length xs - k) (drop k xs) (omega (arith, length-drop k xs))
+
+-- ---- what it is made of
+
+module _ {q : ℕ} {s : Shape} {places ws store : List ℕ} (ready : Ready q s places ws store) (w : ℕ) (h : w < pieceCount s) where
+  at : Placed s w
+  at = placed s w (ready .small) h
+
+  pub block-there : pieceBlock s w ≤ length ws
+  block-there =
+      omega (arith, at .block, ready .weights, mul-le-mul-right (blockCount s) (ready .some))
+
+  pub row-there : pieceRow s w * s .columns ≤ length store
+  row-there = omega (arith, at .row, ready .stored 0 (ready .some))
+
+  pub piece-there : There (drop (pieceBlock s w) ws) (blockCount s) places (drop (pieceRow s w * s .columns) store) (blockLength s)
+  piece-there = record {
+    weight = λ c l. omega (arith, at .block, ready .weights, row-end (blockCount s) l, length-drop (pieceBlock s w) ws);
+    answer = λ c l. omega (arith, at .row, ready .stored c l, length-drop (pieceRow s w * s .columns) store);
+  }
+
+  -- an element of an answer is below q
+  answer-below : (c v : ℕ) → 0 < q → c < length places → v < s .columns
+      → entry (blockLength s) (drop (pieceRow s w * s .columns) store) (getD places c 0) v < q
+  unfolding entry blockAt
+  answer-below c v pos l lv =
+      let place = getD places c 0 in
+      let from = pieceRow s w * s .columns in
+      let inside : from + v < blockLength s = omega (arith, at .row) in
+      let same : from + (place * blockLength s + v) ≡ place * blockLength s + (from + v) = omega arith in
+      let is : getD (drop from store) (place * blockLength s + v) 0 ≡ getD (blockAt (blockLength s) store place) (from + v) 0
+      = getD-drop from store (place * blockLength s + v) 0
+      ∙ ap (λ (k : ℕ). getD store k 0) same
+      ∙ sym (getD-take (blockLength s) (drop (place * blockLength s) store) (from + v) 0 inside ∙ getD-drop (place * blockLength s) store (from + v) 0) in
+      omega (arith, is, below-anywhere q (blockAt (blockLength s) store place) pos (ready .below-answers c l) (from + v))
+
+  piece-bound : (v : ℕ) → 0 < q → v < s .columns → pieceSum s places ws store w v ≤ length places * (q * q)
+  unfolding pieceSum answerTerms
+  piece-bound v pos lv =
+      sum-bound (length places) (q * q) _ (λ c l.
+      mul-le-mul (le-of-lt (below-anywhere q (drop (pieceBlock s w) ws) pos (below-drop q ws (ready .below-weights) (pieceBlock s w)) (c * blockCount s)))
+      (le-of-lt (answer-below c v pos l lv)))
+
+pub piece-exact : (m : Modulus) (s : Shape) (places ws store : List ℕ) → Ready (prime m) s places ws store → (w : ℕ) → w < pieceCount s
+    → (sums out : List ℕ) → length sums ≡ s .columns → length out ≡ s .columns → (after : List ℕ)
+    → after ≡ tab (λ v. (getD (zeros sums) v 0 + pieceSum s places ws store w v) % 2 ^ 64) (length (zeros sums))
+    → reduced (prime m) after out ≡ tab (λ v. pieceSum s places ws store w v % prime m) (s .columns)
+unfolding zeros
+piece-exact m s places ws store ready w h sums out size room after e =
+    let pos : 0 < prime m = omega (arith, prime-prime m .above-one) in
+    let none : length (zeros sums) ≡ s .columns = length-tab (λ (v : ℕ). 0) (length sums) ∙ size in
+    let exact : after ≡ tab (pieceSum s places ws store w) (s .columns)
+    = e
+    ∙ ap (tab (λ v. (getD (zeros sums) v 0 + pieceSum s places ws store w v) % 2 ^ 64)) none
+    ∙ tab-cong _ (pieceSum s places ws store w) (s .columns) (λ v l.
+    let zero : getD (zeros sums) v 0 ≡ 0 = getD-tab (λ (k : ℕ). 0) (length sums) v 0 (omega arith) in
+    let bound = piece-bound ready w h v pos l in
+    let few = mul-le-mul-right (prime m * prime m) (ready .few) in
+    let same : (getD (zeros sums) v 0 + pieceSum s places ws store w v) % 2 ^ 64 ≡ pieceSum s places ws store w v = omega (arith, sums-fit m) in
+    same) in
+    ap (λ (l : List ℕ). reduced (prime m) l out) exact ∙ reduced-tab (prime m) (s .columns) (pieceSum s places ws store w) out room

@@ -28,7 +28,7 @@ use Rattle.algebra.specs.Sums.{sum}
 use Rattle.refusal.specs.Chain.{Row}
 use Rattle.field.specs.Modulus.{prime as Modulus·prime}
 use Rattle.interpolation.specs.Basis.{coefficients, product, quotient, basisScale}
-use Rattle.layout.specs.Exponents.{Exponents}
+use Rattle.layout.specs.Exponents.{Exponents, exponents}
 use Rattle.plan.specs.declared.Job.{Job}
 use Rattle.plan.specs.declared.Plan.{Plan}
 use Rattle.plan.specs.Planning.{prime, neededOf, blockRows, blockColumns, planOf}
@@ -79,15 +79,20 @@ pub record Small (s : Shape) : Type 0 where
 
 -- ---- weights
 
-unfoldable pub weight : ℕ → Exponents → Shape → List ℕ → ℕ → ℕ → ℕ
-weight q e s xs c b =
-    let x = getD xs c 0 in
-    basisScale q x xs
-    * getD (quotient q x (coefficients q (product q xs) (suc (length xs))) (length xs)) (e .place (b / s .across) (b % s .across)) 0
-    % q
+-- roots is the product of (X - y) over the points xs
+unfoldable pub hostWeight : ℕ → Exponents → ℕ → ℕ → List ℕ → List ℕ → ℕ → ℕ
+hostWeight q e across x xs roots b =
+    basisScale q x xs * getD (quotient q x roots (length xs)) (e .place (b / across) (b % across)) 0 % q
 
 unfoldable pub weightsOf : ℕ → Exponents → Shape → List ℕ → List ℕ
-weightsOf q e s xs = grid (weight q e s xs) (length xs) (blockCount s)
+weightsOf q e s xs =
+    grid (λ c b. hostWeight q e (s .across) (getD xs c 0) xs (coefficients q (product q xs) (suc (length xs))) b) (length xs) (blockCount s)
+
+pub record Roomy (plan : Plan) (hosts count : ℕ) : Type 0 where
+  pub few : hosts ≤ 64
+  pub split : 1 ≤ plan .parameters .n
+  pub blocks : count ≡ plan .parameters .m * plan .parameters .n
+  pub places : (k j : ℕ) → k < plan .parameters .m → j < plan .parameters .n → exponents (plan .layout) (plan .parameters) .place k j < hosts
 
 -- ---- pieces
 
@@ -111,9 +116,9 @@ pieceSum s places weights store w v =
 
 pub record Ready (q : ℕ) (s : Shape) (places ws store : List ℕ) : Type 0 where
   pub small : Small s
+  pub some : 1 ≤ length places
   pub few : length places ≤ 64
   pub weights : length ws ≡ length places * blockCount s
   pub below-weights : AllBelow q ws
-  pub within : length store ≤ 64 * 4096
   pub stored : (c : ℕ) → c < length places → getD places c 0 * blockLength s + blockLength s ≤ length store
   pub below-answers : (c : ℕ) → c < length places → AllBelow q (blockAt (blockLength s) store (getD places c 0))

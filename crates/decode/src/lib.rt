@@ -6,10 +6,13 @@ ghost use lib.ListN.{length, getD};
 ghost use Rattle.algebra.specs.Lists.{tab, grid, AllBelow};
 ghost use Rattle.refusal.specs.Chain.{first};
 ghost use Rattle.field.specs.Modulus.{prime};
+ghost use Rattle.layout.specs.Exponents.{exponents};
 ghost use Rattle.decode.specs.Decoding.{heardBelow};
 ghost use Rattle.decode.specs.Weights.{
   ownTests,
   Limited,
+  Roomy,
+  hostWeight,
   pieceCount,
   answerTerms,
   There,
@@ -17,6 +20,7 @@ ghost use Rattle.decode.specs.Weights.{
   Ready,
 };
 use field::Modulus;
+use layout::Series;
 use plan::Job;
 use plan::Plan;
 use refusal::either;
@@ -29,7 +33,9 @@ struct Shape {
     columns: usize,
 }
 
-// The most columns of a block.
+// The most hosts, and the most columns of a block.
+const MOST_HOSTS: usize = 64;
+
 const MOST_COLUMNS: usize = 4096;
 
 // The blocks of the hosts heard have elements below the prime; other blocks are not looked at.
@@ -85,6 +91,31 @@ fn points_at(points: &[u32], places: &[u32], out: &mut [u32])
         let place = places[c] as usize;
         out[c] = points[place];
         c += 1;
+    }
+}
+
+// The weights of the chosen host whose point is x: its basis polynomial has them at the places of the table's blocks. The roots
+// are the product over all the chosen points.
+fn host_weights(plan: Plan, x: u32, points: &[u32], roots: &[u32], out: &mut [u32])
+    requires { ⌜ Roomy plan (length (now points)) (length (now out)) ⌝ }
+    ensures { λ _. ⌜ now (out .exit)
+        ≡ tab (λ b. hostWeight (prime (plan .modulus)) (exponents (plan .layout) (plan .parameters)) (plan .parameters .n) x (now (points .entry)) (now (roots .entry)) b) (length (now (out .entry))) ⌝ }
+{
+    let modulus = plan.modulus;
+    let layout = plan.layout;
+    let g = plan.parameters;
+    let across = g.n as usize;
+    let count = points.len();
+    let mut quotient = [0u32; MOST_HOSTS];
+    interpolation::divide_root(modulus, roots, x, &mut quotient[..count]);
+    let scale = interpolation::basis_scale(modulus, x, points);
+    let mut b = 0;
+    while b < out.len() {
+        let row = (b / across) as u8;
+        let column = (b % across) as u8;
+        let e = layout::exponent_of(Series::Places, layout, g, row, column) as usize;
+        out[b] = field::multiply(modulus, scale, quotient[e]);
+        b += 1;
     }
 }
 
