@@ -19,7 +19,7 @@
 use mathlib.Core.Path.{_≡_}
 use mathlib.Core.Bool.{not, _||_}
 use mathlib.Core.List.{List, [], _∷_}
-use Prim.Native.Nat.{ℕ, suc, _+_, _*_, _/_, _%_, _<_, _≤_}
+use Prim.Native.Nat.{ℕ, _+_, _*_, _/_, _%_, _<_, _≤_}
 use lib.Dec.{eqb, ltb}
 use lib.Count.{ones}
 use lib.ListN.{length, getD, drop}
@@ -86,12 +86,13 @@ hostWeight q e across x xs roots b =
 
 unfoldable pub weightsOf : ℕ → Exponents → Shape → List ℕ → List ℕ
 weightsOf q e s xs =
-    grid (λ c b. hostWeight q e (s .across) (getD xs c 0) xs (coefficients q (product q xs) (suc (length xs))) b) (length xs) (blockCount s)
+    grid (λ c b. hostWeight q e (s .across) (getD xs c 0) xs (coefficients q (product q xs) (length xs + 1)) b) (length xs) (blockCount s)
 
 pub record Roomy (plan : Plan) (hosts count : ℕ) : Type 0 where
   pub few : hosts ≤ 64
   pub split : 1 ≤ plan .parameters .n
   pub blocks : count ≡ plan .parameters .m * plan .parameters .n
+  pub small : count ≤ 64
   pub places : (k j : ℕ) → k < plan .parameters .m → j < plan .parameters .n → exponents (plan .layout) (plan .parameters) .place k j < hosts
 
 -- ---- pieces

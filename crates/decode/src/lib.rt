@@ -11,8 +11,11 @@ ghost use Rattle.decode.specs.Decoding.{heardBelow};
 ghost use Rattle.decode.specs.Weights.{
   ownTests,
   Limited,
+  shape,
+  blockCount,
   Roomy,
   hostWeight,
+  weightsOf,
   pieceCount,
   answerTerms,
   There,
@@ -33,8 +36,10 @@ struct Shape {
     columns: usize,
 }
 
-// The most hosts, and the most columns of a block.
+// The most hosts, the most coefficients of the product over their points, and the most columns of a block.
 const MOST_HOSTS: usize = 64;
+
+const MOST_ROOTS: usize = 65;
 
 const MOST_COLUMNS: usize = 4096;
 
@@ -116,6 +121,33 @@ fn host_weights(plan: Plan, x: u32, points: &[u32], roots: &[u32], out: &mut [u3
         let e = layout::exponent_of(Series::Places, layout, g, row, column) as usize;
         out[b] = field::multiply(modulus, scale, quotient[e]);
         b += 1;
+    }
+}
+
+// The weights of the chosen hosts, host by host.
+fn decoding_weights(plan: Plan, points: &[u32], weights: &mut [u32])
+    requires { ⌜ Roomy plan (length (now points)) (blockCount (shape plan)) × length (now weights) ≡ length (now points) * blockCount (shape plan) ⌝ }
+    ensures { λ _. ⌜ now (weights .exit)
+        ≡ weightsOf (prime (plan .modulus)) (exponents (plan .layout) (plan .parameters)) (shape plan) (now (points .entry)) ⌝ }
+{
+    let modulus = plan.modulus;
+    let g = plan.parameters;
+    let size = g.m as usize * g.n as usize;
+    let count = points.len() + 1;
+    let mut roots = [0u32; MOST_ROOTS];
+    interpolation::from_roots(modulus, points, &mut roots[..count]);
+    let mut c = 0;
+    while c < points.len() {
+        let start = c * size;
+        let end = start + size;
+        host_weights(
+            plan,
+            points[c],
+            points,
+            &roots[..count],
+            &mut weights[start..end],
+        );
+        c += 1;
     }
 }
 
