@@ -2,3 +2,4 @@
 pub mod Chosen
 pub mod Stored
 pub mod Pieces
+pub mod Tables
