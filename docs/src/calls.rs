@@ -128,7 +128,7 @@ fn bytes_of(case: &Case) -> Vec<u8> {
 }
 
 /// Numbers as words.
-fn words(numbers: &[u32]) -> Vec<u8> {
+pub fn words(numbers: &[u32]) -> Vec<u8> {
     numbers.iter().flat_map(|word| word.to_be_bytes()).collect()
 }
 
@@ -168,7 +168,7 @@ fn reading_told(call: &Reading) -> Vec<u8> {
 }
 
 /// The output after a call that wrote these elements.
-fn elements_told(written: &[u32], room: usize) -> Vec<u8> {
+pub fn elements_told(written: &[u32], room: usize) -> Vec<u8> {
     let told = trimmed(written, room, u32::from_be_bytes([FILLING; 4]));
     let mut bytes = words(&[told.len() as u32]);
     bytes.extend(words(&told));

@@ -24,12 +24,35 @@
 //!   message_damage  cases of damaged messages to read
 //!   calls           the file format of the calls' cases and answers
 //!   call_cases      the subcommand `calls`: all their cases, checked and written
+//!
+//!   job_call        calls on a job that is under way, and the tests that they make first
+//!   arrival         an answer's arrival
+//!   interpolate     interpolation, by a system of linear equations
+//!   decode          the table, decoded
+//!   whole_job       a job with its matrices and masks, its true products and its table
+//!   story           calls on one job, one after another
+//!   job_stories     cases of whole jobs
+//!   job_faults      what cases of arrivals and of decodings have in common
+//!   arrival_calls   cases of arrivals by themselves
+//!   decode_calls    cases of decodings by themselves
+//!   jobs            the file format of these cases and answers
+//!   job_cases       the subcommand `jobs`: all of them, checked and written
 
+mod arrival;
+mod arrival_calls;
 mod call_cases;
 mod calls;
 mod cases;
+mod decode;
+mod decode_calls;
 mod draw;
 mod faults;
+mod interpolate;
+mod job_call;
+mod job_cases;
+mod job_faults;
+mod job_stories;
+mod jobs;
 mod lister;
 mod lister_cases;
 mod lister_plans;
@@ -44,6 +67,8 @@ mod product_calls;
 mod random;
 mod share;
 mod share_calls;
+mod story;
+mod whole_job;
 
 /// Picks the subject named on the command line.
 fn main() {
@@ -52,8 +77,9 @@ fn main() {
     match words.as_slice() {
         ["lister", stdin_file, stdout_file] => lister_cases::write(stdin_file, stdout_file),
         ["calls", stdin_file, stdout_file] => call_cases::write_files(stdin_file, stdout_file),
+        ["jobs", stdin_file, stdout_file] => job_cases::write_files(stdin_file, stdout_file),
         _ => {
-            eprintln!("usage: reference lister|calls STDIN_FILE STDOUT_FILE");
+            eprintln!("usage: reference lister|calls|jobs STDIN_FILE STDOUT_FILE");
             std::process::exit(2);
         }
     }

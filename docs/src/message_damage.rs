@@ -8,8 +8,12 @@ use crate::random::Random;
 
 /// All cases whose refusal number is known from the way they are made.
 pub fn expected(random: &mut Random) -> Expected<Reading> {
+    [fault_pairs(random), single_faults(random)].concat()
+}
+
+/// Those of them that have at most one fault.
+pub fn single_faults(random: &mut Random) -> Expected<Reading> {
     let groups = [
-        fault_pairs(random),
         rooms(random),
         truncated(random),
         other_lengths(random),

@@ -40,6 +40,20 @@ impl Random {
         (self.draw() >> 32) as u32
     }
 
+    /// A list of any words.
+    pub fn words(&mut self, count: usize) -> Vec<u32> {
+        (0..count).map(|_| self.word()).collect()
+    }
+
+    /// The numbers from 1 to a count in random order.
+    pub fn order(&mut self, count: u32) -> Vec<u32> {
+        let mut numbers: Vec<u32> = (1..=count).collect();
+        for last in (1..numbers.len()).rev() {
+            numbers.swap(last, self.index(last + 1));
+        }
+        numbers
+    }
+
     /// A list of elements below q.
     pub fn elements(&mut self, count: usize, q: u32) -> Vec<u32> {
         (0..count).map(|_| self.within(0, q - 1)).collect()

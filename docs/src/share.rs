@@ -4,6 +4,7 @@
 //!   Sharing  a call that makes one host's share
 //!   Shape    what a side takes from the job: sizes and exponents
 //!   share    the share, or the first refusal number that fits
+//!   times    a product in the field
 
 use crate::plan::{self, choose, prime, Job};
 
@@ -146,7 +147,7 @@ fn power(point: u32, exponent: u32, q: u32) -> u32 {
 }
 
 /// A product mod q; it is made in 64 bits, since (q - 1)^2 reaches 2^32.
-fn times(x: u32, y: u32, q: u32) -> u32 {
+pub fn times(x: u32, y: u32, q: u32) -> u32 {
     (u64::from(x) * u64::from(y) % u64::from(q)) as u32
 }
 

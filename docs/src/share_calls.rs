@@ -185,7 +185,7 @@ fn hosts_and_points(random: &mut Random) -> Expected<Sharing> {
 }
 
 /// Random points: distinct, not 0, below q.
-fn distinct_points(random: &mut Random, count: u32, q: u32) -> Vec<u32> {
+pub fn distinct_points(random: &mut Random, count: u32, q: u32) -> Vec<u32> {
     let mut points = Vec::new();
     while points.len() < count as usize {
         let point = random.within(1, q - 1);

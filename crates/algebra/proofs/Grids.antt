@@ -5,13 +5,12 @@
 --   entry-grid                the same, by row and column
 --   below-grid                a grid of small numbers
 --   row-grid                  a row of a grid, which more elements may follow
---   rows-none, rows-more, rows-all  a list that is filled row by row becomes a grid
+--   rows-none, rows-some, rows-more, rows-all  a list that is filled some rows at a time, or row by row, becomes a grid
 use mathlib.Core.Path.{_≡_, refl, sym, ap, ap₂, _∙_}
 use mathlib.Core.Logic.{⊎-elim}
 use mathlib.Core.List.{List, [], _∷_, _++_, append-assoc, append-nil}
 use Prim.Native.Nat.{ℕ, zero, suc, _+_, _*_, _<_}
-use native.Mathlib.Nat.{not-suc-le-zero, le-of-suc-le-suc, eq-or-lt-of-le, lt-suc-self, mul-le-mul-right}
-use native.Mathlib.Numerals.{add-one}
+use native.Mathlib.Nat.{not-suc-le-zero, le-of-suc-le-suc, eq-or-lt-of-le, lt-suc-self, mul-le-mul-right, add-zero, add-suc}
 use native.Mathlib.Omega.{arith}
 use lib.ListN.{length, getD, take, drop, length-append, List·getD-append, drop-of-length-le}
 use lib.Seq.{getD-append-add, take-at, drop-at, drop-drop}
@@ -84,21 +83,36 @@ module _ (f : ℕ → ℕ → ℕ) where
   unfolding grid
   rows-none xs columns = let none : 0 ≡ 0 * columns = omega arith in ap (λ (k : ℕ). drop k xs) none
 
+  grid-append : (i n columns : ℕ) → grid f (i + n) columns ≡ grid f i columns ++ grid (λ k. f (i + k)) n columns
+  unfolding grid
+  grid-append i zero columns = rw add-zero (sym (append-nil (grid f i columns)))
+  grid-append i (suc n) columns =
+      rw add-suc
+      (ap (λ (l : List ℕ). l ++ tab (f (i + n)) columns) (grid-append i n columns)
+      ∙ append-assoc (grid f i columns) (grid (λ k. f (i + k)) n columns) (tab (f (i + n)) columns))
+
+  pub rows-some : (xs ys part : List ℕ) (columns i n : ℕ) → ys ≡ grid f i columns ++ drop (i * columns) xs → part ≡ grid (λ k. f (i + k)) n columns
+      → take (i * columns) ys ++ (part ++ drop (n * columns) (drop (i * columns) ys)) ≡ grid f (i + n) columns ++ drop ((i + n) * columns) xs
+  rows-some xs ys part columns i n e r =
+      let size = length-grid i columns in
+      let front : take (i * columns) ys ≡ grid f i columns = ap (take (i * columns)) e ∙ take-at (grid f i columns) _ _ size in
+      let end : i * columns + n * columns ≡ (i + n) * columns = omega arith in
+      let back : drop (n * columns) (drop (i * columns) ys) ≡ drop ((i + n) * columns) xs
+      = ap (λ (l : List ℕ). drop (n * columns) (drop (i * columns) l)) e
+      ∙ ap (drop (n * columns)) (drop-at (grid f i columns) _ _ size)
+      ∙ drop-drop (n * columns) (i * columns) xs
+      ∙ ap (λ (k : ℕ). drop k xs) end in
+      ap₂ (λ (l r : List ℕ). l ++ r) front (ap₂ (λ (l r : List ℕ). l ++ r) r back)
+      ∙ sym (append-assoc (grid f i columns) (grid (λ k. f (i + k)) n columns) (drop ((i + n) * columns) xs))
+      ∙ ap (λ (l : List ℕ). l ++ drop ((i + n) * columns) xs) (sym (grid-append i n columns))
+
   pub rows-more : (xs ys row : List ℕ) (columns i : ℕ) → ys ≡ grid f i columns ++ drop (i * columns) xs → row ≡ tab (f i) columns
       → take (i * columns) ys ++ (row ++ drop columns (drop (i * columns) ys)) ≡ grid f (i + 1) columns ++ drop ((i + 1) * columns) xs
   unfolding grid
   rows-more xs ys row columns i e r =
-      let n = length-grid i columns in
-      let front : take (i * columns) ys ≡ grid f i columns = ap (take (i * columns)) e ∙ take-at (grid f i columns) _ _ n in
-      let end : i * columns + columns ≡ suc i * columns = omega arith in
-      let back : drop columns (drop (i * columns) ys) ≡ drop (suc i * columns) xs
-      = ap (λ (l : List ℕ). drop columns (drop (i * columns) l)) e
-      ∙ ap (drop columns) (drop-at (grid f i columns) _ _ n)
-      ∙ drop-drop columns (i * columns) xs
-      ∙ ap (λ (k : ℕ). drop k xs) end in
-      rw add-one
-      (ap₂ (λ (l r : List ℕ). l ++ r) front (ap₂ (λ (l r : List ℕ). l ++ r) r back)
-      ∙ sym (append-assoc (grid f i columns) (tab (f i) columns) (drop (suc i * columns) xs)))
+      let one : columns ≡ 1 * columns = omega arith in
+      ap (λ (k : ℕ). take (i * columns) ys ++ (row ++ drop k (drop (i * columns) ys))) one
+      ∙ rows-some xs ys row columns i 1 e (r ∙ ap (λ (k : ℕ). tab (f k) columns) (sym (add-zero i)))
 
   pub rows-all : (xs ys : List ℕ) (rows columns : ℕ) → length xs ≡ rows * columns → ys ≡ grid f rows columns ++ drop (rows * columns) xs
       → ys ≡ grid f rows columns

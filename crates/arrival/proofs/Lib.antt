@@ -1,1 +1,3 @@
 -- Laws of arrivals.
+pub mod Answers
+pub mod Blocks

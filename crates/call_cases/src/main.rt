@@ -4,12 +4,12 @@
 ghost use Prim.Native.Nat.{_≤_};
 ghost use lib.ListN.{length};
 ghost use Rattle.io.specs.Counts.{Counts};
+use header::Header;
+use header::Reading;
 use libc::STDIN_FILENO;
 use libc::STDOUT_FILENO;
-use message::Header;
-use message::Reading;
 use plan::Job;
-use share::Matrix;
+use weights::Matrix;
 use words::least;
 
 // What stands in an output before a call.

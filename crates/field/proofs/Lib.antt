@@ -1,4 +1,3 @@
--- Laws of the moduli, of powers and of Euclid's remainders.
+-- Laws of the moduli and of powers.
 pub mod Moduli
 pub mod Powers
-pub mod Euclid

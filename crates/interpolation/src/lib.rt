@@ -94,7 +94,7 @@ pub fn basis_scale(modulus: Modulus, x: u32, points: &[u32]) -> u32
         let other = field::reduce(modulus, points[i] as u64);
         if own != other {
             let difference = own + (q - other);
-            let inverse = field::inverse_of(modulus, difference);
+            let inverse = inverse::inverse_of(modulus, difference);
             scale = field::multiply(modulus, inverse, scale);
         }
     }

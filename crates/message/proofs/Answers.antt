@@ -1,8 +1,6 @@
 -- What the calls answer and leave, by their tests.
 --
 --   written-done, written-refused    what writing leaves
---   done-by, refused-by              what looking a message over answers
---   examined-done, examined-refused  and what this tells of its tests
 --   examined-number, read-number     the number of an answer is that of the first test that fits
 --   read-short                       the output of reading is too short
 --   read-long                        it is long enough: reading tells what looking over does
@@ -16,9 +14,10 @@ use lib.ListN.{length, drop}
 use borrow.Author.Tests.{lt-ltb, le-ltb}
 use Rattle.refusal.specs.Chain.{first, answer}
 use Rattle.refusal.proofs.Chains.{first-hit, first-miss, answer-done, answer-refused}
-use Rattle.message.specs.declared.Header.{Header}
-use Rattle.message.specs.declared.Reading.the-variants.{Done, Refused}
-use Rattle.message.specs.Format.{messageOf, headerOf, elementCount, elements, writeTests, messageTests, readTests, written, examined, readAs, readInto, numberOf}
+use Rattle.header.specs.declared.Header.{Header}
+use Rattle.header.specs.declared.Reading.the-variants.{Done, Refused}
+use Rattle.header.specs.Header.{headerOf, elementCount}
+use Rattle.message.specs.Format.{messageOf, elements, writeTests, messageTests, readTests, written, examined, readAs, readInto, numberOf}
 
 module _ (h : Header) (xs out : List ℕ) where
   pub written-done : first (writeTests h xs (length out)) ≡ 0 → written h xs out ≡ messageOf h xs
@@ -35,32 +34,6 @@ number-told h zero = refl
 number-told h (suc n) = refl
 
 module _ (message : List ℕ) where
-  pub done-by : {h : Header} → h ≡ headerOf message → first (messageTests message) ≡ 0 → Done h ≡ examined message
-  unfolding examined
-  done-by same e = ap Done same ∙ sym (answer-done (Done (headerOf message)) Refused _ e)
-
-  pub refused-by : (n : ℕ) → (n ≡ 0 → ⊥) → first (messageTests message) ≡ n → Refused n ≡ examined message
-  unfolding examined
-  refused-by n ne e = sym (ap (λ (k : ℕ). answer k (Done (headerOf message)) Refused) e ∙ answer-refused (Done (headerOf message)) Refused n ne)
-
-  pub examined-done : {h : Header} → examined message ≡ Done h → (first (messageTests message) ≡ 0) × (h ≡ headerOf message)
-  unfolding examined answer
-  examined-done {h} e = go (first (messageTests message)) refl e
-    where
-      go : (n : ℕ) → first (messageTests message) ≡ n → answer n (Done (headerOf message)) Refused ≡ Done h
-          → (first (messageTests message) ≡ 0) × (h ≡ headerOf message)
-      go zero is e = (is, cc)
-      go (suc n) is e = let z : _≡_ {A = ℕ} 1 0 = cc in absurd (suc-ne-zero 0 z)
-
-  pub examined-refused : {n : ℕ} → examined message ≡ Refused n → (first (messageTests message) ≡ n) × (n ≡ 0 → ⊥)
-  unfolding examined answer
-  examined-refused {n} e = go (first (messageTests message)) refl e
-    where
-      go : (k : ℕ) → first (messageTests message) ≡ k → answer k (Done (headerOf message)) Refused ≡ Refused n
-          → (first (messageTests message) ≡ n) × (n ≡ 0 → ⊥)
-      go zero is e = let z : _≡_ {A = ℕ} 1 0 = cc in absurd (suc-ne-zero 0 z)
-      go (suc k) is e = let same : suc k ≡ n = cc in (is ∙ same, λ z. suc-ne-zero k (same ∙ z))
-
   pub examined-number : numberOf (examined message) ≡ first (messageTests message)
   unfolding examined
   examined-number = number-told (headerOf message) (first (messageTests message))

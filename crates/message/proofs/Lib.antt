@@ -1,7 +1,6 @@
 -- Laws of messages.
 pub mod Tests
 pub mod Fields
-pub mod Headers
 pub mod Parts
 pub mod Answers
 pub mod RoundTrips

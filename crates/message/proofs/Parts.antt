@@ -14,9 +14,10 @@ use Rattle.text.specs.Decimal.{put}
 use Rattle.text.proofs.Puts.{put-fits, length-put}
 use Rattle.elements.specs.Bytes.{bytesOf, elementsOf, common}
 use Rattle.elements.proofs.Words.{written-exact}
-use Rattle.message.specs.declared.Header.{Header}
-use Rattle.message.specs.Format.{header, messageOf, headerOf, elementCount, payload, elements}
-use Rattle.message.proofs.Headers.{length-header}
+use Rattle.header.specs.declared.Header.{Header}
+use Rattle.header.specs.Header.{header, headerOf, elementCount}
+use Rattle.header.proofs.Headers.{length-header}
+use Rattle.message.specs.Format.{messageOf, payload, elements}
 
 abbrev pub Rest : List ℕ → List ℕ
 Rest bytes = take (length bytes - 16) (drop 16 bytes)

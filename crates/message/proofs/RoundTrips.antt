@@ -20,13 +20,16 @@ use Rattle.refusal.specs.Chain.{first}
 use Rattle.elements.specs.Bytes.{bytesOf, elementsOf}
 use Rattle.elements.proofs.Bytes.{length-bytesOf, bytesOf-bytes, elements-of-bytes, bytes-of-elements}
 use Rattle.elements.proofs.Words.{length-elements}
-use Rattle.message.specs.declared.Header.{Header}
-use Rattle.message.specs.declared.Reading.the-variants.{Done, Refused}
-use Rattle.message.specs.Format.{header, messageOf, headerOf, elementCount, payload, elements, fieldTests, elementTest, writeTests, messageTests, written, readAs, readInto}
+use Rattle.header.specs.declared.Header.{Header}
+use Rattle.header.specs.declared.Reading.the-variants.{Done, Refused}
+use Rattle.header.specs.Header.{header, headerOf, elementCount, fieldTests}
+use Rattle.header.proofs.Fields.{Ranged, ranged}
+use Rattle.header.proofs.Headers.{length-header, header-bytes, mark-header, version-header, headerOf-header, header-headerOf}
+use Rattle.header.proofs.Answers.{done-by, done-told}
+use Rattle.message.specs.Format.{messageOf, payload, elements, elementTest, writeTests, messageTests, written, examined, readAs, readInto}
 use Rattle.message.specs.RoundTrips.{ReadsBack, IsWritten, RoundTrips}
-use Rattle.message.proofs.Fields.{Ranged, ranged, Writable, writable, writes, Readable, readable, reads, small}
-use Rattle.message.proofs.Answers.{written-done, done-by, examined-done, read-short, read-long, read-done}
-use Rattle.message.proofs.Headers.{length-header, header-bytes, mark-header, version-header, headerOf-header, header-headerOf}
+use Rattle.message.proofs.Fields.{Writable, writable, writes, Readable, readable, reads, small}
+use Rattle.message.proofs.Answers.{written-done, read-short, read-long, read-done}
 
 module _ (h : Header) (xs : List ℕ) (room : ℕ) (number : h .number < 2 ^ 32) (accepted : first (writeTests h xs room) ≡ 0) where
   w : Writable h xs room
@@ -57,9 +60,12 @@ module _ (h : Header) (xs : List ℕ) (room : ℕ) (number : h .number < 2 ^ 32)
     accepted =
         reads (messageOf h xs)
         (record {
-          mark = mark-header h (bytesOf xs);
-          version = version-header h (bytesOf xs);
-          fields = ap (λ (k : Header). first (fieldTests k)) header-back ∙ w .fields;
+          head = record {
+            long = omega (arith, length-message);
+            mark = mark-header h (bytesOf xs);
+            version = version-header h (bytesOf xs);
+            fields = ap (λ (k : Header). first (fieldTests k)) header-back ∙ w .fields;
+          };
           whole = length-message ∙ ap (λ (k : Header). 16 + 4 * elementCount k) (sym header-back);
           below = ap₂ (λ (k : Header) (ys : List ℕ). elementTest (k .modulus) ys) header-back elements-back ∙ w .below;
         });
@@ -86,9 +92,9 @@ module _ (message : List ℕ) (bytes : AllBelow 256 message) (accepted : first (
   is-written = record {
     accepted =
         writes (headerOf message) (elements message) (length message)
-        (record { fields = m .fields; count = length-elements _ _; room = m .whole; below = m .below });
+        (record { fields = m .head .fields; count = length-elements _ _; room = m .whole; below = m .below });
     same =
-        sym (ap₂ (λ (xs ys : List ℕ). xs ++ ys) (header-headerOf message bytes (omega (arith, m .whole)) (m .mark) (m .version)) same-payload
+        sym (ap₂ (λ (xs ys : List ℕ). xs ++ ys) (header-headerOf message bytes (m .head .long) (m .head .mark) (m .head .version)) same-payload
         ∙ take-append-drop 16 message);
   }
 
@@ -101,11 +107,12 @@ module _ (h : Header) (xs out store : List ℕ) (number : h .number < 2 ^ 32) (a
   same-count = ap elementCount (back .header) ∙ sym (writable h xs (length out) accepted .count)
 
   write-then-read : (readAs (written h xs out) (length store) ≡ Done h) × (readInto (written h xs out) store ≡ xs ++ drop (length xs) store)
+  unfolding examined
   write-then-read =
       let is = written-done h xs out accepted in (
         ap (λ (bytes : List ℕ). readAs bytes (length store)) is
             ∙ read-long (messageOf h xs) (length store) room
-            ∙ sym (done-by (messageOf h xs) (sym (back .header)) (back .accepted)),
+            ∙ sym (done-by _ _ (sym (back .header)) (back .accepted)),
         ap (λ (bytes : List ℕ). readInto bytes store) is
             ∙ read-done (messageOf h xs) store room (back .accepted)
             ∙ ap₂ (λ (ys : List ℕ) (n : ℕ). ys ++ drop n store) (back .elements) same-count,
@@ -122,7 +129,8 @@ module _ (message out store : List ℕ) {h : Header} (bytes : AllBelow 256 messa
       never e = let z : _≡_ {A = ℕ} 1 0 = cc in suc-ne-zero 0 z
 
   told : (first (messageTests message) ≡ 0) × (h ≡ headerOf message)
-  told = examined-done message (sym (read-long message (length store) room) ∙ done)
+  unfolding examined
+  told = done-told _ _ (sym (read-long message (length store) room) ∙ done)
 
   same-elements : take (elementCount h) (readInto message store) ≡ elements message
   unfolding elements

@@ -1,29 +1,24 @@
 -- The tests of writing and of a message, one after the other: what the first that fits tells.
 --
---   fields-numbered                  every test of the fields has a number
 --   write-fields, write-length ..    writing
---   told-short, told-mark ..         a message
+--   told-header, told-length ..      a message
 --   element-named                    the test of the elements, by the modulus's own prime
 use mathlib.Core.Path.{_≡_, refl, ap, _∙_}
 use mathlib.Core.Bool.{true, false, not}
-use mathlib.Core.List.{List, [], _∷_, _++_}
-use Prim.Native.Nat.{ℕ, _<_, _≤_}
-use lib.Dec.{T}
+use mathlib.Core.List.{List, [], _∷_}
+use Prim.Native.Nat.{ℕ}
 use lib.ListN.{length}
-use borrow.Author.Tests.{lt-ltb, le-ltb}
 use Rattle.algebra.specs.Lists.{allBelow}
 use Rattle.refusal.specs.Chain.{Row, first}
-use Rattle.refusal.proofs.Chains.{first-none, first-hit, first-miss, first-append, first-append-hit, numbered}
+use Rattle.refusal.proofs.Chains.{first-none, first-hit, first-miss, first-append, first-append-hit}
 use Rattle.field.specs.declared.Modulus.{Modulus}
 use Rattle.field.specs.declared.Named.the-variants.{Is}
 use Rattle.field.specs.Modulus.{prime, named}
 use Rattle.field.proofs.Moduli.{known}
-use Rattle.message.specs.declared.Header.{Header}
-use Rattle.message.specs.Format.{headerOf, elements, fieldTests, elementTest, writeLengthTest, writeTests, markTest, versionTest, lengthTest, messageTests}
-
-pub fields-numbered : (h : Header) → T (numbered (fieldTests h))
-unfolding fieldTests numbered
-fields-numbered h = tt
+use Rattle.header.specs.declared.Header.{Header}
+use Rattle.header.specs.Header.{headerOf, fieldTests, headerTests}
+use Rattle.header.proofs.Tests.{fields-numbered, header-numbered}
+use Rattle.message.specs.Format.{elements, elementTest, writeLengthTest, writeTests, lengthTest, messageTests}
 
 pub element-named : (n : ℕ) {m : Modulus} (xs : List ℕ) → named n ≡ Is m → elementTest n xs ≡ not (allBelow (prime m) xs)
 unfolding elementTest
@@ -33,6 +28,7 @@ element-named n xs e = ap (λ (q : ℕ). not (allBelow q xs)) (known n e refl .i
 write-ends : Header → List ℕ → ℕ → List Row
 write-ends h xs room = (writeLengthTest h (length xs) room, 13) ∷ (elementTest (h .modulus) xs, 14) ∷ []
 
+-- the tests after those of the header
 message-ends : List ℕ → List Row
 message-ends message = (lengthTest message, 20) ∷ (elementTest (headerOf message .modulus) (elements message), 14) ∷ []
 
@@ -60,41 +56,24 @@ module _ (h : Header) (xs : List ℕ) (room : ℕ) where
       write-none e = past-fields ∙ first-miss _ 13 _ lengths ∙ first-miss _ 14 _ e ∙ first-none
 
 module _ (message : List ℕ) where
-  pub told-short : length message < 16 → first (messageTests message) ≡ 17
+  pub told-header : (n : ℕ) → (n ≡ 0 → ⊥) → first (headerTests message) ≡ n → first (messageTests message) ≡ n
   unfolding messageTests
-  told-short l = first-hit _ 17 _ (lt-ltb (length message) 16 l)
+  told-header n ne e = first-append-hit (headerTests message) _ n ne e
 
-  module _ (long : 16 ≤ length message) where
-    pub told-mark : markTest message ≡ true → first (messageTests message) ≡ 18
-    unfolding messageTests
-    told-mark e = first-miss _ 17 _ (le-ltb (length message) 16 long) ∙ first-hit _ 18 _ e
+  module _ (head : first (headerTests message) ≡ 0) where
+    past-header : first (messageTests message) ≡ first (message-ends message)
+    unfolding messageTests message-ends
+    past-header = first-append (headerTests message) _ (header-numbered message) head
 
-    module _ (mark : markTest message ≡ false) where
-      pub told-version : versionTest message ≡ true → first (messageTests message) ≡ 19
-      unfolding messageTests
-      told-version e = first-miss _ 17 _ (le-ltb (length message) 16 long) ∙ first-miss _ 18 _ mark ∙ first-hit _ 19 _ e
+    pub told-length : lengthTest message ≡ true → first (messageTests message) ≡ 20
+    unfolding message-ends
+    told-length e = past-header ∙ first-hit _ 20 _ e
 
-      module _ (version : versionTest message ≡ false) where
-        past-version : first (messageTests message) ≡ first (fieldTests (headerOf message) ++ message-ends message)
-        unfolding messageTests message-ends
-        past-version = first-miss _ 17 _ (le-ltb (length message) 16 long) ∙ first-miss _ 18 _ mark ∙ first-miss _ 19 _ version
+    module _ (whole : lengthTest message ≡ false) where
+      pub told-element : elementTest (headerOf message .modulus) (elements message) ≡ true → first (messageTests message) ≡ 14
+      unfolding message-ends
+      told-element e = past-header ∙ first-miss _ 20 _ whole ∙ first-hit _ 14 _ e
 
-        pub told-fields : (n : ℕ) → (n ≡ 0 → ⊥) → first (fieldTests (headerOf message)) ≡ n → first (messageTests message) ≡ n
-        told-fields n ne e = past-version ∙ first-append-hit (fieldTests (headerOf message)) _ n ne e
-
-        module _ (fields : first (fieldTests (headerOf message)) ≡ 0) where
-          past-all-fields : first (messageTests message) ≡ first (message-ends message)
-          past-all-fields = past-version ∙ first-append (fieldTests (headerOf message)) _ (fields-numbered (headerOf message)) fields
-
-          pub told-length : lengthTest message ≡ true → first (messageTests message) ≡ 20
-          unfolding message-ends
-          told-length e = past-all-fields ∙ first-hit _ 20 _ e
-
-          module _ (whole : lengthTest message ≡ false) where
-            pub told-element : elementTest (headerOf message .modulus) (elements message) ≡ true → first (messageTests message) ≡ 14
-            unfolding message-ends
-            told-element e = past-all-fields ∙ first-miss _ 20 _ whole ∙ first-hit _ 14 _ e
-
-            pub told-none : elementTest (headerOf message .modulus) (elements message) ≡ false → first (messageTests message) ≡ 0
-            unfolding message-ends
-            told-none e = past-all-fields ∙ first-miss _ 20 _ whole ∙ first-miss _ 14 _ e ∙ first-none
+      pub told-none : elementTest (headerOf message .modulus) (elements message) ≡ false → first (messageTests message) ≡ 0
+      unfolding message-ends
+      told-none e = past-header ∙ first-miss _ 20 _ whole ∙ first-miss _ 14 _ e ∙ first-none

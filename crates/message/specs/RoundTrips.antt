@@ -11,9 +11,10 @@ use Prim.Native.Nat.{ℕ, _+_, _*_, _^_, _<_, _≤_}
 use lib.ListN.{length, take, drop}
 use Rattle.algebra.specs.Lists.{AllBelow}
 use Rattle.refusal.specs.Chain.{first}
-use Rattle.message.specs.declared.Header.{Header}
-use Rattle.message.specs.declared.Reading.the-variants.{Done}
-use Rattle.message.specs.Format.{messageOf, headerOf, elementCount, elements, writeTests, messageTests, written, readAs, readInto}
+use Rattle.header.specs.declared.Header.{Header}
+use Rattle.header.specs.declared.Reading.the-variants.{Done}
+use Rattle.header.specs.Header.{headerOf, elementCount}
+use Rattle.message.specs.Format.{messageOf, elements, writeTests, messageTests, written, readAs, readInto}
 
 pub record ReadsBack (h : Header) (xs : List ℕ) : Type 0 where
   pub length : length (messageOf h xs) ≡ 16 + 4 * elementCount h

@@ -1,53 +1,137 @@
--- The product, row by row.
+-- The product, some rows at a time.
 --
---   row-exact    the sums of 64 bits hold a row's combinations
---   row-is       a row of A's share as weights of B's rows gives the product's row
-use mathlib.Core.Path.{_≡_, refl, ap, _∙_}
-use mathlib.Core.List.{List}
-use Prim.Native.Nat.{ℕ, _+_, _*_, _%_, _≤_}
+--   one-row       the sums of 64 bits by one row are a product of one row
+--   two-rows      the halves of the sums by two packed rows are a product of two rows
+--   part-rows     a product by some rows of A's share is those rows of the product
+use mathlib.Core.Path.{_≡_, refl, ap, ap₂, _∙_}
+use mathlib.Core.Bool.{Bool, true, false, cond}
+use mathlib.Core.List.{List, _++_, append-nil}
+use Prim.Native.Nat.{ℕ, _+_, _-_, _*_, _%_, _<_, _≤_}
+use native.Mathlib.Nat.{lt-of-lt-of-le}
 use native.Mathlib.Omega.{arith}
-use lib.ListN.{length, getD, take, drop, length-drop}
-use lib.Seq.{getD-take, getD-drop, length-take-le}
-use Rattle.algebra.specs.Lists.{tab, entry, AllBelow}
+use lib.ListN.{length, getD, take, drop, length-append, length-take, length-drop, drop-of-length-le}
+use lib.Seq.{getD-take, getD-drop, length-take-le, take-all, take-at}
+use Rattle.algebra.specs.Lists.{tab, grid, entry, AllBelow}
 use Rattle.algebra.specs.Sums.{sum}
-use Rattle.algebra.proofs.Grids.{tab-cong}
+use Rattle.algebra.proofs.Orders.{row-end}
+use Rattle.algebra.proofs.Lists.{length-tab, below-part}
+use Rattle.algebra.proofs.Grids.{tab-cong, grid-cong}
 use Rattle.algebra.proofs.Sums.{sum-cong}
 use Rattle.field.specs.declared.Modulus.{Modulus}
 use Rattle.field.specs.Modulus.{prime}
 use Rattle.rows.specs.Combination.{zeros, combination, added, reduced}
 use Rattle.rows.proofs.Exact.{combination-fits, added-zeros, reduced-tab}
-use Rattle.product.specs.Product.{productEntry}
+use Rattle.pairs.specs.Packing.{packed, halves}
+use Rattle.pairs.proofs.Exact.{halves-exact}
+use Rattle.product.specs.Product.{productEntry, productOf}
 
-pub row-exact : (m : Modulus) (row b sums out : List ℕ) → AllBelow (prime m) row → AllBelow (prime m) b → length row ≤ 4096
-    → length sums ≡ length out
-    → reduced (prime m) (added (zeros sums) row b (length out)) out ≡ tab (λ j. combination row b (length out) j % prime m) (length out)
-row-exact m row b sums out below-row below-b few same =
+-- the weights are row i of A's share
+row-entry : (inner columns : ℕ) (a b row : List ℕ) (i : ℕ) → length row ≡ inner → ((l : ℕ) → l < inner → getD row l 0 ≡ entry inner a i l)
+    → (j : ℕ) → combination row b columns j ≡ productEntry inner columns a b i j
+unfolding combination productEntry
+row-entry inner columns a b row i len same j =
+    ap (λ (n : ℕ). sum n (λ l. getD row l 0 * entry columns b l j)) len
+    ∙ sum-cong inner _ _ (λ l h. ap (λ (x : ℕ). x * entry columns b l j) (same l h))
+
+pub one-row : (m : Modulus) (row b sums out : List ℕ) → AllBelow (prime m) row → AllBelow (prime m) b → length row ≤ 4096 → length sums ≡ length out
+    → reduced (prime m) (added (zeros sums) row b (length out)) out ≡ productOf (prime m) 1 (length row) (length out) row b
+unfolding productOf grid entry
+one-row m row b sums out below-row below-b few same =
+    let n = length out in
     ap (λ (xs : List ℕ). reduced (prime m) xs out)
-    (added-zeros row b (length out) sums (λ j l. combination-fits row b (length out) m j few below-row below-b)
-    ∙ ap (tab (combination row b (length out))) same)
-    ∙ reduced-tab (prime m) (length out) (combination row b (length out)) out refl
+    (added-zeros row b n sums (λ j l. combination-fits row b n m j few below-row below-b) ∙ ap (tab (combination row b n)) same)
+    ∙ reduced-tab (prime m) n (combination row b n) out refl
+    ∙ tab-cong _ _ n (λ j h. ap (λ (x : ℕ). x % prime m) (row-entry (length row) n row b row 0 refl (λ l k.
+    let start : l ≡ 0 * length row + l = omega arith in
+    ap (λ (t : ℕ). getD row t 0) start) j))
 
-module _ (inner columns : ℕ) (a b : List ℕ) (i : ℕ) (within : i * inner + inner ≤ length a) where
-  row : List ℕ
-  row = take inner (drop (i * inner) a)
+-- an output whose first n elements are written
+abbrev written : ℕ → List ℕ → List ℕ → List ℕ
+written n first out = first ++ drop n out
 
-  row-length : length row ≡ inner
-  unfolding row
-  row-length = length-take-le inner (drop (i * inner) a) (omega (arith, length-drop (i * inner) a))
+-- an output of two rows of n
+module _ (n : ℕ) (first second out : List ℕ) (one : length first ≡ n) (size : length out ≡ 2 * n) where
+  second-size : length (take (length (written n first out) - n) (drop n (written n first out))) ≡ n
+  second-size =
+      let w = written n first out in
+      omega (arith, length-take (length w - n) (drop n w), length-drop n w, length-append first (drop n out), length-drop n out)
 
-  row-entry : (j : ℕ) → combination (take inner (drop (i * inner) a)) b columns j ≡ productEntry inner columns a b i j
-  unfolding combination productEntry entry row
-  row-entry j =
-      ap (λ (n : ℕ). sum n (λ l. getD row l 0 * entry columns b l j)) row-length
-      ∙ sum-cong inner (λ l. getD row l 0 * entry columns b l j) (λ l. entry inner a i l * entry columns b l j)
-      (λ l h. ap (λ (x : ℕ). x * entry columns b l j) (getD-take inner (drop (i * inner) a) l 0 h ∙ getD-drop (i * inner) a l 0))
+  both-written : length second ≡ n
+      → take n (written n first out) ++ (second ++ drop (length (written n first out) - n) (drop n (written n first out))) ≡ first ++ second
+  both-written two =
+      let w = written n first out in
+      ap₂ (λ (xs ys : List ℕ). xs ++ (second ++ ys)) (take-at first (drop n out) n one) (drop-of-length-le (drop n w) {i = length w - n} (omega (arith, length-drop n w)))
+      ∙ ap (λ (xs : List ℕ). first ++ xs) (append-nil second)
 
-  pub row-is : (q : ℕ) (out : List ℕ) → i * columns + columns ≤ length out
-      → tab (λ j. combination (take inner (drop (i * inner) a)) b (length (take columns (drop (i * columns) out))) j % q)
-      (length (take columns (drop (i * columns) out)))
-      ≡ tab (λ j. productEntry inner columns a b i j % q) columns
-  row-is q out room =
-      let size : length (take columns (drop (i * columns) out)) ≡ columns
-      = length-take-le columns (drop (i * columns) out) (omega (arith, length-drop (i * columns) out)) in
-      ap (λ (n : ℕ). tab (λ j. combination (take inner (drop (i * inner) a)) b n j % q) n) size
-      ∙ tab-cong _ _ columns (λ j l. ap (λ (x : ℕ). x % q) (row-entry j))
+-- two rows of A's share that can be packed
+module _ (m : Modulus) (inner : ℕ) (pair b : List ℕ) (small : prime m ≤ 257) (few : inner ≤ 127) (len : length pair ≡ 2 * inner)
+    (below-pair : AllBelow (prime m) pair) (below-b : AllBelow (prime m) b) where
+  -- the second of them
+  rest : take (length pair - inner) (drop inner pair) ≡ drop inner pair
+  rest = take-all (length pair - inner) (drop inner pair) (omega (arith, length-drop inner pair))
+
+  -- each of them as weights
+  row-of : (n : ℕ) (upper : Bool) (j : ℕ)
+      → combination (cond upper (take (length pair - inner) (drop inner pair)) (take inner pair)) b n j ≡ productEntry inner n pair b (cond upper 1 0) j
+  unfolding entry
+  row-of n false j =
+      row-entry inner n pair b (take inner pair) 0 (length-take-le inner pair (omega arith)) (λ l h.
+      let start : l ≡ 0 * inner + l = omega arith in
+      getD-take inner pair l 0 h ∙ ap (λ (k : ℕ). getD pair k 0) start) j
+  row-of n true j =
+      rw rest (row-entry inner n pair b (drop inner pair) 1 (omega (arith, length-drop inner pair)) (λ l h.
+      let start : inner + l ≡ 1 * inner + l = omega arith in
+      getD-drop inner pair l 0 ∙ ap (λ (k : ℕ). getD pair k 0) start) j)
+
+  half-exact : (upper : Bool) (weights sums out : List ℕ) → length weights ≡ inner → length out ≡ length sums
+      → reduced (prime m) (halves upper (added (zeros sums) (packed (take inner pair) (take (length pair - inner) (drop inner pair)) weights) b (length sums))) out
+      ≡ tab (λ j. productEntry inner (length sums) pair b (cond upper 1 0) j % prime m) (length sums)
+  half-exact upper weights sums out same size =
+      let n = length sums in
+      ap (λ (xs : List ℕ). reduced (prime m) xs out)
+      (halves-exact (take inner pair) (take (length pair - inner) (drop inner pair)) b inner n
+      (length-take-le inner pair (omega arith)) (rw rest (omega (arith, length-drop inner pair))) few
+      (λ i l. lt-of-lt-of-le (below-part (prime m) pair below-pair inner 0 i l) small)
+      (λ i l. lt-of-lt-of-le (below-part (prime m) pair below-pair (length pair - inner) inner i l) small)
+      (λ i l. lt-of-lt-of-le (below-b i l) small) weights sums upper same)
+      ∙ reduced-tab (prime m) n _ out size
+      ∙ tab-cong _ _ n (λ j l. ap (λ (x : ℕ). x % prime m) (row-of n upper j))
+
+  -- the weights, the sums and the rows, one made from the other
+  pub two-rows : (empty weights sums cleared made first second out : List ℕ) → inner ≤ length empty → length weights ≡ length (take inner empty)
+      → weights ≡ packed (take inner pair) (take (length pair - inner) (drop inner pair)) (take inner empty)
+      → cleared ≡ zeros sums
+      → made ≡ added cleared (take inner (weights ++ drop inner empty)) b (length sums)
+      → length out ≡ 2 * length sums
+      → first ≡ reduced (prime m) (halves false made) (take (length sums) out)
+      → let w = written (length sums) first out in
+      second ≡ reduced (prime m) (halves true made) (take (length w - length sums) (drop (length sums) w))
+      → take (length sums) w ++ (second ++ drop (length w - length sums) (drop (length sums) w)) ≡ productOf (prime m) 2 inner (length sums) pair b
+  unfolding productOf grid
+  two-rows empty weights sums cleared made first second out wide same is-weights is-cleared is-made size is-first is-second =
+      let n = length sums in
+      let thin : length (take inner empty) ≡ inner = length-take-le inner empty wide in
+      let lent : take inner (weights ++ drop inner empty) ≡ packed (take inner pair) (take (length pair - inner) (drop inner pair)) (take inner empty)
+      = take-at weights (drop inner empty) inner (same ∙ thin) ∙ is-weights in
+      let sums-are = is-made ∙ ap₂ (λ (s w : List ℕ). added s w b n) is-cleared lent in
+      let low : first ≡ tab (λ j. productEntry inner n pair b 0 j % prime m) n
+      = is-first ∙ ap (λ (xs : List ℕ). reduced (prime m) (halves false xs) (take n out)) sums-are
+      ∙ half-exact false (take inner empty) sums (take n out) thin (length-take-le n out (omega arith)) in
+      let one : length first ≡ n = ap length low ∙ length-tab _ n in
+      let w = written n first out in
+      let room = take (length w - n) (drop n w) in
+      let high : second ≡ tab (λ j. productEntry inner n pair b 1 j % prime m) n
+      = is-second ∙ ap (λ (xs : List ℕ). reduced (prime m) (halves true xs) room) sums-are
+      ∙ half-exact true (take inner empty) sums room thin (second-size n first second out one size) in
+      both-written n first second out one size (ap length high ∙ length-tab _ n) ∙ ap₂ (λ (xs ys : List ℕ). xs ++ ys) low high
+
+pub part-rows : (q inner columns : ℕ) (a b : List ℕ) (i n : ℕ)
+    → productOf q n inner columns (take (n * inner) (drop (i * inner) a)) b ≡ grid (λ k j. productEntry inner columns a b (i + k) j % q) n columns
+unfolding productOf productEntry entry
+part-rows q inner columns a b i n =
+    grid-cong _ _ n columns (λ k j hk hj. ap (λ (x : ℕ). x % q) (sum-cong inner _ _ (λ l hl.
+    let there : i * inner + (k * inner + l) ≡ (i + k) * inner + l = omega arith in
+    ap (λ (x : ℕ). x * getD b (l * columns + j) 0)
+    (getD-take (n * inner) (drop (i * inner) a) (k * inner + l) 0 (omega (arith, row-end inner hk))
+    ∙ getD-drop (i * inner) a (k * inner + l) 0
+    ∙ ap (λ (t : ℕ). getD a t 0) there))))

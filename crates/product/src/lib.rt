@@ -1,20 +1,27 @@
 // The host's block product: A share times B share, modulo the prime.
 ghost use mathlib.Core.Path.{_≡_};
 ghost use mathlib.Core.Bool.{not, _||_};
-ghost use Prim.Native.Nat.{_*_, _%_, _≤_};
+ghost use Prim.Native.Nat.{_*_, _≤_};
 ghost use lib.ListN.{length};
-ghost use Rattle.algebra.specs.Lists.{AllBelow, allBelow, tab};
+ghost use Rattle.algebra.specs.Lists.{AllBelow, allBelow};
 ghost use Rattle.refusal.specs.Chain.{first};
 ghost use Rattle.field.specs.Modulus.{prime};
-ghost use Rattle.rows.specs.Combination.{combination};
 ghost use Rattle.product.specs.Product.{productOf, lengthTest, productTests, productAfter};
+ghost use Rattle.product.specs.Rows.{AtOnce};
 use field::Modulus;
 use field::Named;
 use refusal::either;
+use words::least;
 use words::wide_product;
 
 // The most elements that a block has, and so the most columns.
 const MOST_COLUMNS: usize = 4096;
+
+// The largest prime whose elements are packed.
+const MOST_PACKED_PRIME: u32 = 257;
+
+// The most elements of a row that is packed.
+const MOST_PACKED: usize = 127;
 
 // A buffer is not of exact length.
 fn length_test(rows: u32, inner: u32, columns: u32, a: usize, b: usize, out: usize) -> bool
@@ -46,14 +53,80 @@ fn product_row(modulus: Modulus, row: &[u32], b: &[u32], sums: &mut [u64], out: 
         × length (now row) ≤ 4096
         × length (now sums) ≡ length (now out) ⌝ }
     ensures { λ _. ⌜ now (out .exit)
-        ≡ tab (λ j. combination (now (row .entry)) (now (b .entry)) (length (now (out .entry))) j % prime modulus) (length (now (out .entry))) ⌝ }
+        ≡ productOf (prime modulus) 1 (length (now (row .entry))) (length (now (out .entry))) (now (row .entry)) (now (b .entry)) ⌝ }
 {
     rows::clear(sums);
     rows::add_rows(sums, row, b, out.len());
     rows::reduce_row(modulus, sums, out);
 }
 
-// The product of two shares of the right lengths, row by row.
+// How many rows of the product are made at once: two where they have room when packed.
+fn at_once(modulus: Modulus, inner: usize) -> usize
+    ensures { λ r. ⌜ AtOnce (prime modulus) inner r ⌝ }
+{
+    if MOST_PACKED_PRIME < field::prime_of(modulus) {
+        return 1;
+    }
+    if MOST_PACKED < inner {
+        return 1;
+    }
+    2
+}
+
+// Two rows of the product at once: A's rows are packed, and the sums taken apart.
+fn two_rows(
+    modulus: Modulus,
+    inner: usize,
+    pair: &[u32],
+    b: &[u32],
+    sums: &mut [u64],
+    out: &mut [u32],
+)
+    requires { ⌜ prime modulus ≤ 257
+        × inner ≤ 127
+        × AllBelow (prime modulus) (now pair)
+        × AllBelow (prime modulus) (now b)
+        × length (now pair) ≡ 2 * inner
+        × length (now out) ≡ 2 * length (now sums) ⌝ }
+    ensures { λ _. ⌜ now (out .exit)
+        ≡ productOf (prime modulus) 2 inner (length (now (sums .entry))) (now (pair .entry)) (now (b .entry)) ⌝ }
+{
+    let columns = sums.len();
+    let mut weights = [0u32; MOST_PACKED];
+    pairs::pack(&pair[..inner], &pair[inner..], &mut weights[..inner]);
+    rows::clear(sums);
+    rows::add_rows(sums, &weights[..inner], b, columns);
+    pairs::unpack(modulus, false, sums, &mut out[..columns]);
+    pairs::unpack(modulus, true, sums, &mut out[columns..]);
+}
+
+// One row of the product or two, as can be made at once.
+fn few_rows(
+    modulus: Modulus,
+    count: usize,
+    inner: usize,
+    part: &[u32],
+    b: &[u32],
+    sums: &mut [u64],
+    out: &mut [u32],
+)
+    requires { ⌜ AtOnce (prime modulus) inner count
+        × AllBelow (prime modulus) (now part)
+        × AllBelow (prime modulus) (now b)
+        × inner ≤ 4096
+        × length (now part) ≡ count * inner
+        × length (now out) ≡ count * length (now sums) ⌝ }
+    ensures { λ _. ⌜ now (out .exit)
+        ≡ productOf (prime modulus) count inner (length (now (sums .entry))) (now (part .entry)) (now (b .entry)) ⌝ }
+{
+    if count == 2 {
+        two_rows(modulus, inner, part, b, sums, out);
+    } else {
+        product_row(modulus, part, b, sums, out);
+    }
+}
+
+// The product of two shares of the right lengths, a few rows at a time.
 fn multiply_rows(
     modulus: Modulus,
     rows: usize,
@@ -74,20 +147,24 @@ fn multiply_rows(
     ensures { λ _. ⌜ now (out .exit) ≡ productOf (prime modulus) rows inner columns (now (a .entry)) (now (b .entry)) ⌝ }
 {
     let mut sums = [0u64; MOST_COLUMNS];
+    let step = at_once(modulus, inner);
     let mut i = 0;
     while i < rows {
+        let n = least(step, rows - i);
         let left = i * inner;
-        let left_end = left + inner;
+        let left_end = left + n * inner;
         let start = i * columns;
-        let end = start + columns;
-        product_row(
+        let end = start + n * columns;
+        few_rows(
             modulus,
+            n,
+            inner,
             &a[left..left_end],
             b,
             &mut sums[..columns],
             &mut out[start..end],
         );
-        i += 1;
+        i += n;
     }
 }
 

@@ -27,7 +27,7 @@ use Rattle.layout.proofs.Soundness.{sound}
 use Rattle.plan.specs.declared.Job.{Job}
 use Rattle.plan.specs.Planning.{prime, parameters, layoutOf, neededOf, blockRows, blockInner, blockColumns, planOf}
 use Rattle.plan.proofs.Facts.{Facts, facts}
-use Rattle.share.specs.declared.Matrix.the-variants.{A, B}
+use Rattle.weights.specs.declared.Matrix.the-variants.{A, B}
 use Rattle.share.specs.Sharing.{point, hostShare}
 use Rattle.product.specs.Product.{productEntry, productOf}
 use Rattle.heard.specs.Heard.{isHeard}

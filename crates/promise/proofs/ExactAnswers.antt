@@ -19,8 +19,9 @@ use Rattle.algebra.proofs.Polynomials.{ev-tab}
 use Rattle.layout.specs.Exponents.{Exponents, term}
 use Rattle.layout.specs.Sound.{Sound}
 use Rattle.plan.specs.declared.Plan.{Plan}
-use Rattle.share.specs.declared.Matrix.the-variants.{A, B}
-use Rattle.share.specs.Sharing.{side, blockEntry, maskEntry, shareEntry, shareOf}
+use Rattle.weights.specs.declared.Matrix.the-variants.{A, B}
+use Rattle.weights.specs.Weights.{side}
+use Rattle.share.specs.Sharing.{blockEntry, maskEntry, shareEntry, shareOf}
 use Rattle.product.specs.Product.{productEntry, productOf}
 use Rattle.promise.proofs.ExactSums.{whole, Expands, expands-sum}
 use Rattle.promise.proofs.ExactPlaces.{valueA, valueB, places, places-expand, places-meet}

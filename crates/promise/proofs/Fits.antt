@@ -1,7 +1,7 @@
 -- Fit arrivals (01, "Arrivals"): what is left of an arrival's tests in an accepted job.
 --
 --   core               the tests of a message, and 22 and 12: those that neither the plan nor the hosts heard play a part in
---   message-numbered, core-numbered  each test has a number
+--   core-numbered      each of them has a number
 --   fit-core           an arrival is fit where none of these holds
 --   arrival-core       an arrival is judged by these, and by 23
 --   FitMessage         what a fit message has: its host's place is below N, and its elements fill a block and are below q
@@ -26,8 +26,10 @@ use Rattle.plan.proofs.Then.{plan-numbered}
 use Rattle.field.specs.Modulus.{modulus as Modulus·modulus}
 use Rattle.elements.proofs.Words.{length-elements}
 use Rattle.message.proofs.Fields.{readable}
-use Rattle.message.specs.Format.{headerOf, elementCount, elements, elementTest, fieldTests, messageTests}
+use Rattle.header.specs.Header.{headerTests, headerOf, elementCount, fieldTests}
+use Rattle.message.specs.Format.{elements, elementTest, messageTests}
 use Rattle.heard.specs.Heard.{isHeard, someAbove}
+use Rattle.arrival.proofs.Answers.{message-numbered}
 use Rattle.arrival.specs.Arriving.{answerLength, storeLength, place, foreign, stateTests, ownTests, arrivalTests}
 use Rattle.promise.specs.Demand3.{Task, Accepted, State, fit}
 
@@ -54,7 +56,7 @@ module _ (x : Task) (ok : Accepted x) (s : State) (room : length (s .store) ≡ 
   rest = stateTests (x .numbers) (s .heard) (length (s .store)) ++ (messageTests message ++ ownTests (x .numbers) (s .heard) message)
 
   left-is : except 21 (except 23 rest) ≡ left
-  unfolding rest left core others stateTests ownTests messageTests fieldTests except
+  unfolding rest left core others stateTests ownTests messageTests headerTests fieldTests except
   left-is = refl
 
   pub fit-core : fit x s message ≡ eqb (first (core x message)) 0
@@ -87,20 +89,16 @@ pub record FitMessage (x : Task) (message : List ℕ) : Type 0 where
   pub below : AllBelow (prime (x .numbers)) (elements message)
 
 module _ (x : Task) (ok : Accepted x) (message : List ℕ) where
-  pub message-numbered : T (numbered (messageTests message))
-  unfolding messageTests fieldTests numbered
-  message-numbered = tt
-
   pub core-numbered : T (numbered (core x message))
   unfolding core others numbered
-  core-numbered = numbered-append (messageTests message) (others x message) message-numbered (let t : T (numbered (others x message)) = tt in t)
+  core-numbered = numbered-append (messageTests message) (others x message) (message-numbered message) (let t : T (numbered (others x message)) = tt in t)
 
   pub fit-message : first (core x message) ≡ 0 → FitMessage x message
   unfolding core others foreign place answerLength elements elementCount elementTest prime
   fit-message e =
       let job = x .numbers in
       let h = headerOf message in
-      let parts = first-append-clear (messageTests message) (others x message) message-numbered e in
+      let parts = first-append-clear (messageTests message) (others x message) (message-numbered message) e in
       let read = readable message (parts .0) in
       let own = first-clear _ 21 _ (parts .1) in
       let named = first-clear _ 11 _ (own .1) in

@@ -21,9 +21,10 @@ use Rattle.layout.proofs.Soundness.{sound}
 use Rattle.plan.specs.declared.Job.{Job}
 use Rattle.plan.specs.Planning.{prime, parameters, layoutOf, planOf}
 use Rattle.plan.proofs.Facts.{Fits, Facts, facts}
-use Rattle.share.specs.declared.Matrix.{Matrix}
-use Rattle.share.specs.declared.Matrix.the-variants.{A, B}
-use Rattle.share.specs.Sharing.{side, shareOf, point, hostShare}
+use Rattle.weights.specs.declared.Matrix.{Matrix}
+use Rattle.weights.specs.declared.Matrix.the-variants.{A, B}
+use Rattle.weights.specs.Weights.{side}
+use Rattle.share.specs.Sharing.{shareOf, point, hostShare}
 use Rattle.message.specs.Format.{messageOf}
 use Rattle.promise.specs.Demand3.{Task, Accepted, SamePublic, Masks, Hidden, publicNumbers, largest, matrix, headerFor, shareHeader, shareMessage}
 use Rattle.promise.proofs.Solvable.{Solvable, solvable-powers}

@@ -1,5 +1,6 @@
 -- Proofs of the promises.
 pub mod Starred
+pub mod Demand1
 pub mod Solvable
 pub mod Matching
 pub mod Hidden

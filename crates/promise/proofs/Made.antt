@@ -32,14 +32,17 @@ use Rattle.plan.specs.declared.Job.{Job}
 use Rattle.plan.specs.Planning.{prime, parameters, blockRows, blockInner, blockColumns, planOf}
 use Rattle.plan.proofs.Facts.{Fits, facts}
 use Rattle.plan.proofs.Then.{then-own}
-use Rattle.share.specs.declared.Matrix.{Matrix}
-use Rattle.share.specs.declared.Matrix.the-variants.{A, B}
-use Rattle.share.specs.Sharing.{side, shareOf, hostShare, blockLength, matrixLength, maskLength, ownTests, shareTests, shareAfter}
+use Rattle.weights.specs.declared.Matrix.{Matrix}
+use Rattle.weights.specs.declared.Matrix.the-variants.{A, B}
+use Rattle.weights.specs.Weights.{side}
+use Rattle.share.specs.Sharing.{shareOf, hostShare, blockLength, matrixLength, maskLength, ownTests, shareTests, shareAfter}
 use Rattle.share.specs.Sharing.{lengthTest as Sharing·lengthTest}
 use Rattle.product.specs.Product.{productOf, lengthTest, productTests, productAfter}
-use Rattle.message.specs.declared.Header.{Header}
-use Rattle.message.specs.Format.{elementCount, kindTest, hostTest, sizeTest, blockTest, fieldTests, elementTest, writeTests, written}
-use Rattle.message.proofs.Fields.{inside, writes}
+use Rattle.header.specs.declared.Header.{Header}
+use Rattle.header.specs.Header.{elementCount, kindTest, hostTest, sizeTest, blockTest, fieldTests}
+use Rattle.message.specs.Format.{elementTest, writeTests, written}
+use Rattle.header.proofs.Fields.{inside}
+use Rattle.message.proofs.Fields.{writes}
 use Rattle.message.proofs.Answers.{written-done}
 use Rattle.promise.specs.Demand3.{Task, Accepted, Masks, Made, matrix, kindOf, headerFor, shareHeader, answerHeader, shareMessage, trueProduct}
 

@@ -24,7 +24,7 @@ use Rattle.algebra.proofs.Modular.{≈-refl, ≈-sym, ≈-trans, ≈-of-eq, ≈
 use Rattle.algebra.proofs.Sums.{sum-≈, sum-add}
 use Rattle.algebra.proofs.Grids.{grid-cong}
 use Rattle.layout.specs.Exponents.{Exponents, term}
-use Rattle.share.specs.declared.Side.{Side}
+use Rattle.weights.specs.declared.Side.{Side}
 use Rattle.share.specs.Sharing.{blockEntry, maskEntry, shareEntry, shareOf, blockLength, maskLength}
 use Rattle.promise.proofs.Solvable.{Solvable}
 

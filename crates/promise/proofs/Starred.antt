@@ -20,7 +20,8 @@ use Rattle.plan.specs.Planning.{parameters, prime, modulusOf, blockRows, blockI
 use Rattle.plan.specs.Planning.{sizeTest, cutTest, groupTest, divisionTest, blockTest, hostsTest, neededTest, rangeTests, fitTests}
 use Rattle.plan.specs.Planning.{member, pointRows, pointsRows, pointTests, planTests, planned}
 use Rattle.product.specs.Product.{productEntry, productOf, lengthTest, productTests, productAfter}
-use Rattle.share.specs.Sharing.{side, blockEntry, maskEntry, shareEntry, shareOf, point, hostShare, blockLength, matrixLength, maskLength, ownTests, shareTests, shareAfter}
+use Rattle.weights.specs.Weights.{side}
+use Rattle.share.specs.Sharing.{blockEntry, maskEntry, shareEntry, shareOf, point, hostShare, blockLength, matrixLength, maskLength, ownTests, shareTests, shareAfter}
 use Rattle.share.specs.Sharing.{lengthTest as Sharing·lengthTest}
 use Rattle.promise.specs.Starred.{Line, Right, starred, answered, plan, thresholds, smallest, share, jobWith}
 use Rattle.promise.specs.Starred.{answer as Starred·answer}

@@ -25,17 +25,19 @@ use Rattle.refusal.specs.Chain.{Row, first}
 use Rattle.refusal.proofs.Chains.{first-none, first-miss, first-clear, first-append, answer-done}
 use Rattle.plan.specs.Planning.{prime, blockRows, blockColumns, neededOf}
 use Rattle.plan.proofs.Then.{then-own}
-use Rattle.message.specs.declared.Header.{Header}
-use Rattle.message.specs.Format.{messageOf, headerOf, elements, messageTests}
+use Rattle.header.specs.declared.Header.{Header}
+use Rattle.header.specs.Header.{headerOf}
+use Rattle.message.specs.Format.{messageOf, elements, messageTests}
 use Rattle.message.specs.RoundTrips.{ReadsBack}
 use Rattle.message.proofs.RoundTrips.{reads-back}
 use Rattle.heard.specs.Heard.{isHeard, someAbove}
 use Rattle.heard.proofs.Bits.{none-heard, ones-size}
+use Rattle.arrival.proofs.Answers.{message-numbered}
 use Rattle.arrival.specs.Arriving.{answerLength, storeLength, blockAt, place, foreign}
 use Rattle.product.specs.Product.{productOf}
 use Rattle.decode.specs.Decoding.{tableOf, tableLength, heardBelow, decodeTests, tableAfter}
 use Rattle.promise.specs.Demand3.{Task, Accepted, Call, arrival, decoding, State, Reply, unanswered, reply, run, replies, matrix, fitFor, hasFit, firstFit, begin, answerHeader, headerFor, trueProduct, Trace}
-use Rattle.promise.proofs.Fits.{core, others, fit-core, message-numbered}
+use Rattle.promise.proofs.Fits.{core, others, fit-core}
 use Rattle.promise.proofs.Made.{answer, share, answer-written}
 use Rattle.promise.proofs.Trace.{Good, Ran, ran, replies-at}
 use Rattle.promise.proofs.Exact.{exact, answerBlock}
@@ -63,7 +65,7 @@ module _ (x : Task) (ok : Accepted x) (ma mb : List ℕ) (i : ℕ) (low : i < x 
   unfolding core others foreign answerHeader headerFor
   core-clear =
       let job = x .numbers in
-      first-append (messageTests message) (others x message) (message-numbered x ok message) (ap (λ (m : List ℕ). first (messageTests m)) is-message ∙ read .accepted)
+      first-append (messageTests message) (others x message) (message-numbered message) (ap (λ (m : List ℕ). first (messageTests m)) is-message ∙ read .accepted)
       ∙ first-miss _ 22 _
       (ap (foreign job) header-is
       ∙ ap₂ _||_ (ap₂ _||_ (ap₂ _||_ (ap₂ _||_ (alike 3 3 refl) (alike (job .number) (job .number) refl)) (alike (job .modulus) (job .modulus) refl))

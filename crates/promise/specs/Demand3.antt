@@ -31,12 +31,14 @@ use Rattle.algebra.specs.Sets.{size}
 use Rattle.refusal.specs.Chain.{first, except}
 use Rattle.plan.specs.declared.Job.{Job}
 use Rattle.plan.specs.Planning.{prime, blockRows, blockInner, blockColumns, neededOf, planOf, planTests}
-use Rattle.share.specs.declared.Matrix.{Matrix}
-use Rattle.share.specs.declared.Matrix.the-variants.{A, B}
-use Rattle.share.specs.Sharing.{side, hostShare, maskLength, blockLength, shareAfter}
+use Rattle.weights.specs.declared.Matrix.{Matrix}
+use Rattle.weights.specs.declared.Matrix.the-variants.{A, B}
+use Rattle.weights.specs.Weights.{side}
+use Rattle.share.specs.Sharing.{hostShare, maskLength, blockLength, shareAfter}
 use Rattle.product.specs.Product.{productOf, productAfter}
-use Rattle.message.specs.declared.Header.{Header}
-use Rattle.message.specs.Format.{messageOf, elementCount, written}
+use Rattle.header.specs.declared.Header.{Header}
+use Rattle.header.specs.Header.{elementCount}
+use Rattle.message.specs.Format.{messageOf, written}
 use Rattle.heard.specs.Heard.{isHeard}
 use Rattle.arrival.specs.Arriving.{storeLength, place, arrivalTests, arrived, storeAfter, numberOf, heardAfter}
 use Rattle.decode.specs.Decoding.{tableLength, decodeTests, tableAfter}

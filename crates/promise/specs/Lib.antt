@@ -1,4 +1,5 @@
 -- Promises over the definitions that the contracts cite.
 pub mod Starred
+pub mod Demand1
 pub mod Demand3
 pub mod WholeNumbers

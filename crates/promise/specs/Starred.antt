@@ -21,8 +21,8 @@ use Rattle.plan.specs.declared.Planned.{Planned}
 use Rattle.plan.specs.declared.Planned.the-variants.{Accepted, Refused}
 use Rattle.plan.specs.Planning.{parameters, planned}
 use Rattle.product.specs.Product.{productAfter}
-use Rattle.share.specs.declared.Matrix.{Matrix}
-use Rattle.share.specs.declared.Matrix.the-variants.{A, B}
+use Rattle.weights.specs.declared.Matrix.{Matrix}
+use Rattle.weights.specs.declared.Matrix.the-variants.{A, B}
 use Rattle.share.specs.Sharing.{shareAfter}
 
 abbrev pub Line : Type 0

@@ -13,7 +13,7 @@ use lib.ListN.{length, getD}
 use Rattle.algebra.specs.Lists.{entry, AllBelow}
 use Rattle.algebra.specs.Sets.{size}
 use Rattle.plan.specs.Planning.{prime, neededOf}
-use Rattle.share.specs.declared.Matrix.the-variants.{A, B}
+use Rattle.weights.specs.declared.Matrix.the-variants.{A, B}
 use Rattle.product.specs.Product.{productEntry}
 use Rattle.signed.specs.Signed.{signed, inRange, Taking, taken, dot}
 use Rattle.arrival.specs.Arriving.{storeLength}

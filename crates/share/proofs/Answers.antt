@@ -23,11 +23,12 @@ use Rattle.refusal.proofs.Chains.{first-clear, answer-done, answer-refused, ins
 use Rattle.plan.specs.declared.Job.{Job}
 use Rattle.plan.specs.Planning.{parameters, blockRows, blockInner, blockColumns, planOf}
 use Rattle.plan.proofs.Facts.{Fits}
-use Rattle.share.specs.declared.Matrix.{Matrix}
-use Rattle.share.specs.declared.Matrix.the-variants.{A, B}
-use Rattle.share.specs.declared.Side.{Side}
-use Rattle.share.specs.Sharing.{side, hostShare, blockLength, matrixLength, maskLength, lengthTest, ownTests, shareTests, shareAfter}
-use Rattle.share.specs.Weights.{Small}
+use Rattle.weights.specs.declared.Matrix.{Matrix}
+use Rattle.weights.specs.declared.Matrix.the-variants.{A, B}
+use Rattle.weights.specs.declared.Side.{Side}
+use Rattle.weights.specs.Weights.{side}
+use Rattle.share.specs.Sharing.{hostShare, blockLength, matrixLength, maskLength, lengthTest, ownTests, shareTests, shareAfter}
+use Rattle.weights.specs.Weights.{Small}
 
 -- the quotient of a positive number by a divisor of it is positive
 whole : (a b : ℕ) → 1 ≤ a → a % b ≡ 0 → 1 ≤ a / b

@@ -1,50 +1,66 @@
 -- Where the parts of a side lie, and that they are there.
 --
---   Placed s k i    row i of row k of the blocks: its weights and its row of the matrix are within their lists
---   placed          each such row is
---   weights-end     the masks' weights are written behind those of the blocks
-use mathlib.Core.Path.{_≡_, sym, ap, ap₂, _∙_}
-use mathlib.Core.List.{List, _++_, append-assoc}
-use Prim.Native.Nat.{ℕ, _+_, _*_, _<_, _≤_}
-use native.Mathlib.Nat.{mul-le-mul}
+--   Rest from room    the elements of 4 bytes from a place on, in a list of so many
+--   rest              the place is in it, and fits 64 bits
+--   Placed s k i n    row i of row k of the blocks, in a matrix of n elements
+--   placed            each such row is there
+--   width-fits, block-fits  a row of the matrix and a block have few elements
+--   mask-row, block-row  row i of the masks is there, and row i of a block
+use mathlib.Core.Path.{_≡_}
+use Prim.Native.Nat.{ℕ, _+_, _*_, _^_, _<_, _≤_}
+use native.Mathlib.Nat.{mul-le-mul, mul-le-mul-right}
 use native.Mathlib.Omega.{arith}
-use lib.ListN.{length, take, drop}
-use lib.Seq.{take-at, drop-at, drop-drop}
+use mir.Syntax.{w64}
+use mir.Val.{Fits}
 use Rattle.algebra.proofs.Orders.{row-end}
-use Rattle.share.specs.declared.Side.{Side}
-use Rattle.share.specs.Sharing.{blockLength, matrixLength}
-use Rattle.share.specs.Weights.{Small}
+use Rattle.weights.specs.declared.Side.{Side}
+use Rattle.weights.specs.Weights.{Small}
+use Rattle.weights.proofs.Parts.{Part, part}
+use Rattle.share.specs.Sharing.{blockLength, matrixLength, maskLength}
 
-pub record Placed (s : Side) (k i : ℕ) : Type 0 where
-  pub weights : k * s .across + s .across ≤ s .down * s .across
-  pub few : s .down * s .across ≤ 64
-  pub row : k * s .rows + i < s .down * s .rows
-  pub tall : s .down * s .rows ≤ 32768
-  pub wide : s .across * s .columns ≤ 32768
-  pub matrix : (k * s .rows + i) * (s .across * s .columns) ≤ matrixLength s
-  pub most : matrixLength s ≤ 262144
+pub record Rest (from room : ℕ) : Type 0 where
+  pub from-fits : Fits w64 from
+  pub place-fits : Fits w64 (from * 4)
+  pub within : from ≤ room
 
-pub placed : (s : Side) (k i : ℕ) → Small s → k < s .down → i < s .rows → Placed s k i
-unfolding matrixLength blockLength
-placed s k i small hk hi =
-    let last = row-end (s .rows) hk in
-    let inside : k * s .rows + i < s .down * s .rows = omega arith in
-    let end = row-end (s .across * s .columns) inside in
-    record {
-      weights = row-end (s .across) hk;
-      few = omega (arith, mul-le-mul (small .down) (small .across));
-      row = inside;
-      tall = omega (arith, mul-le-mul (small .down) (small .rows));
-      wide = omega (arith, mul-le-mul (small .across) (small .columns));
-      matrix = omega (arith, end);
-      most = omega (arith, mul-le-mul (mul-le-mul (small .down) (small .across)) (small .block));
-    }
+rest : (from room : ℕ) → from ≤ room → from < 2 ^ 60 → Rest from room
+rest from room h small = record { from-fits = record { fits = omega arith }; place-fits = record { fits = omega arith }; within = h }
 
--- the masks' weights behind those of the blocks
-pub weights-end : (blocks masks old now row : List ℕ) (n count : ℕ) → length blocks ≡ n → now ≡ blocks ++ drop n old → row ≡ masks
-    → take n now ++ (row ++ drop count (drop n now)) ≡ (blocks ++ masks) ++ drop (n + count) old
-weights-end blocks masks old now row n count size e r =
-    let front : take n now ≡ blocks = ap (take n) e ∙ take-at blocks _ n size in
-    let back : drop count (drop n now) ≡ drop (n + count) old
-    = ap (λ (l : List ℕ). drop count (drop n l)) e ∙ ap (drop count) (drop-at blocks _ n size) ∙ drop-drop count n old in
-    ap₂ (λ (l m : List ℕ). l ++ m) front (ap₂ (λ (l m : List ℕ). l ++ m) r back) ∙ sym (append-assoc blocks masks (drop (n + count) old))
+pub record Placed (s : Side) (k i room : ℕ) : Type 0 where
+  pub first-fits : Fits w64 (k * s .rows)
+  pub row-fits : Fits w64 (k * s .rows + i)
+  pub matrix : Rest ((k * s .rows + i) * (s .across * s .columns)) room
+
+module _ (s : Side) (small : Small s) where
+  pub width-fits : Fits w64 (s .across * s .columns)
+  width-fits = record { fits = omega (arith, mul-le-mul (small .across) (small .columns)) }
+
+  pub block-fits : Fits w64 (s .rows * s .columns)
+  block-fits = record { fits = omega (arith, small .block) }
+
+  pub placed : (k i room : ℕ) → k < s .down → i < s .rows → room ≡ matrixLength s → Placed s k i room
+  unfolding matrixLength blockLength
+  placed k i room hk hi size =
+      let last = row-end (s .rows) hk in
+      let inside : k * s .rows + i < s .down * s .rows = omega arith in
+      let tall = mul-le-mul (small .down) (small .rows) in
+      let most = mul-le-mul (mul-le-mul (small .down) (small .across)) (small .block) in
+      let end = row-end (s .across * s .columns) inside in
+      record {
+        first-fits = record { fits = omega (arith, tall) };
+        row-fits = record { fits = omega (arith, tall) };
+        matrix = rest _ _ (omega arith) (omega (arith, most));
+      }
+
+  pub mask-row : (i room : ℕ) → i < s .rows → room ≡ maskLength s → Rest (i * s .columns) room
+  unfolding maskLength blockLength
+  mask-row i room h size =
+      let end = row-end (s .columns) h in
+      let all = mul-le-mul-right (s .rows * s .columns) (small .masked) in
+      rest (i * s .columns) room (omega arith) (omega (arith, small .block))
+
+  pub block-row : (i room : ℕ) → i < s .rows → room ≡ blockLength s → Part (i * s .columns) (s .columns) room
+  unfolding blockLength
+  block-row i room h size =
+      let end = row-end (s .columns) h in
+      part (i * s .columns) (s .columns) room (omega arith) (omega (arith, small .block))

@@ -13,8 +13,8 @@ use Rattle.field.specs.declared.Modulus.{Modulus}
 use Rattle.field.specs.Modulus.{prime}
 use Rattle.rows.specs.Combination.{zeros, added, reduced}
 use Rattle.rows.proofs.Exact.{added-more, reduced-tab}
-use Rattle.share.specs.declared.Side.{Side}
-use Rattle.share.specs.Weights.{Ready, blockTerms, maskTerms, rowSums}
+use Rattle.weights.specs.declared.Side.{Side}
+use Rattle.share.specs.Rows.{Ready, blockTerms, maskTerms, rowSums}
 use Rattle.share.proofs.Sums.{row-fits}
 
 module _ (m : Modulus) (s : Side) (w xs ms : List ℕ) (ready : Ready (prime m) s w xs ms) (i : ℕ) (sums out : List ℕ) (same : length sums ≡ length out) where
@@ -28,13 +28,13 @@ module _ (m : Modulus) (s : Side) (w xs ms : List ℕ) (ready : Ready (prime m) 
       plain)
 
   pub row-exact : (blocks both : List ℕ) → blocks ≡ tab (λ j. (getD (zeros sums) j 0 + blockTerms s w xs i j) % 2 ^ 64) (length (zeros sums))
-      → both ≡ added blocks (take (s .count) (drop (s .down * s .across) w)) (drop (i * s .columns) ms) (s .rows * s .columns)
+      → both ≡ tab (λ j. (getD blocks j 0 + maskTerms s w ms i j) % 2 ^ 64) (length blocks)
       → reduced (prime m) both out ≡ tab (λ j. rowSums s w xs ms i j % prime m) (length out)
-  unfolding rowSums maskTerms
+  unfolding rowSums maskTerms added
   row-exact blocks both eb ea =
       let exact : both ≡ tab (rowSums s w xs ms i) (length out)
       = ea
-      ∙ added-more _ _ (s .rows * s .columns) (blockTerms s w xs i) (length sums) blocks (eb ∙ blocks-only)
+      ∙ added-more (take (s .count) (drop (s .down * s .across) w)) (drop (i * s .columns) ms) (s .rows * s .columns) (blockTerms s w xs i) (length sums) blocks (eb ∙ blocks-only)
       ∙ tab-cong _ (rowSums s w xs ms i) (length sums) (λ j l.
       let fits = row-fits m s w xs ms ready i j in
       let own : (blockTerms s w xs i j + maskTerms s w ms i j) % 2 ^ 64 ≡ blockTerms s w xs i j + maskTerms s w ms i j = omega arith in

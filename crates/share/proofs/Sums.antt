@@ -23,9 +23,10 @@ use Rattle.field.proofs.Moduli.{prime-prime, sums-fit}
 use Rattle.layout.specs.Exponents.{Exponents, term}
 use Rattle.rows.specs.Combination.{combination}
 use Rattle.rows.proofs.Exact.{combination-below}
-use Rattle.share.specs.declared.Side.{Side}
+use Rattle.weights.specs.declared.Side.{Side}
 use Rattle.share.specs.Sharing.{blockEntry, maskEntry, shareEntry, shareOf}
-use Rattle.share.specs.Weights.{Ready, weightsOf, blockTerms, maskTerms, rowSums}
+use Rattle.weights.specs.Weights.{weightsOf}
+use Rattle.share.specs.Rows.{Ready, blockTerms, maskTerms, rowSums}
 
 -- a combination whose weights are those of g modulo q, and whose elements in column j are those of h
 weighted : (q n : ℕ) (g h : ℕ → ℕ) (weights source : List ℕ) (stride j : ℕ) → weights ≡ tab (λ l. g l % q) n

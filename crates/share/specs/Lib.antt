@@ -1,3 +1,3 @@
 -- Sharing: a matrix goes out as one masked block to each host.
 pub mod Sharing
-pub mod Weights
+pub mod Rows

@@ -1,8 +1,6 @@
 -- Sharing (01, "Exponents" and "What is turned down", Share).
 -- k, l, i, j and y count from 0: k and l are a block's row and column in the grid of blocks, i and j an element's in a block.
 --
---   side m plan                    == the side of matrix A or B: its grid of blocks, the size of a block, its masks, and the
---                                     series of their exponents
 --   blockEntry s xs k l i j        == the element at i, j of block k, l
 --   maskEntry s ms y i j           == the element at i, j of mask y: the masks lie one after another, row by row
 --   shareEntry e s x xs ms i j     == the sum at i, j of blocks and masks, each times the point x to its exponent
@@ -20,34 +18,12 @@ use lib.ListN.{length, getD}
 use Rattle.algebra.specs.Lists.{grid, entry, allBelow}
 use Rattle.algebra.specs.Sums.{sum}
 use Rattle.refusal.specs.Chain.{Row, first, answer, outside}
-use Rattle.layout.specs.declared.Series.the-variants.{BlocksA, MasksA, BlocksB, MasksB}
 use Rattle.layout.specs.Exponents.{Exponents, exponents, term}
 use Rattle.plan.specs.declared.Job.{Job}
-use Rattle.plan.specs.declared.Plan.{Plan}
 use Rattle.plan.specs.Planning.{prime, parameters, layoutOf, planOf, planTests}
-use Rattle.share.specs.declared.Matrix.{Matrix}
-use Rattle.share.specs.declared.Matrix.the-variants.{A, B}
-use Rattle.share.specs.declared.Side.{Side}
-
-unfoldable pub side : Matrix → Plan → Side
-side A plan = record {
-  down = plan .parameters .m;
-  across = plan .parameters .p;
-  rows = plan .rows;
-  columns = plan .inner;
-  count = plan .parameters .xa;
-  blocks = BlocksA;
-  masks = MasksA;
-}
-side B plan = record {
-  down = plan .parameters .p;
-  across = plan .parameters .n;
-  rows = plan .inner;
-  columns = plan .columns;
-  count = plan .parameters .xb;
-  blocks = BlocksB;
-  masks = MasksB;
-}
+use Rattle.weights.specs.declared.Matrix.{Matrix}
+use Rattle.weights.specs.declared.Side.{Side}
+use Rattle.weights.specs.Weights.{side}
 
 unfoldable pub blockEntry : Side → List ℕ → ℕ → ℕ → ℕ → ℕ → ℕ
 blockEntry s xs k l i j = entry (s .across * s .columns) xs (k * s .rows + i) (l * s .columns + j)

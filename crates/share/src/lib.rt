@@ -1,14 +1,14 @@
 // Sharing: the masked block of a matrix that a host gets.
 ghost use mathlib.Core.Path.{_≡_};
 ghost use mathlib.Core.List.{_++_};
-ghost use Prim.Native.Nat.{_+_, _-_, _*_, _^_, _%_, _<_, _≤_};
+ghost use Prim.Native.Nat.{_+_, _^_, _%_, _<_, _≤_};
 ghost use lib.ListN.{length, getD, drop};
 ghost use Rattle.algebra.specs.Lists.{tab, grid, AllBelow};
 ghost use Rattle.refusal.specs.Chain.{first};
 ghost use Rattle.field.specs.Modulus.{prime};
-ghost use Rattle.layout.specs.Exponents.{exponents, term};
+ghost use Rattle.layout.specs.Exponents.{exponents};
+ghost use Rattle.weights.specs.Weights.{Small, weightCount, weightsOf};
 ghost use Rattle.share.specs.Sharing.{
-  side,
   shareOf,
   blockLength,
   matrixLength,
@@ -18,65 +18,19 @@ ghost use Rattle.share.specs.Sharing.{
   shareTests,
   shareAfter,
 };
-ghost use Rattle.share.specs.Weights.{Small, Ready, weightsOf, weightCount, blockTerms, rowSums};
+ghost use Rattle.share.specs.Rows.{Ready, blockTerms, maskTerms, rowSums};
 use field::Modulus;
-use layout::Layout;
-use layout::Parameters;
-use layout::Series;
 use plan::Job;
 use plan::Plan;
 use plan::Planned;
 use refusal::either;
-
-// Which matrix is shared.
-pub enum Matrix {
-    A,
-    B,
-}
-
-// A side: its grid of blocks, down by across; a block, rows by columns; the number of its masks; and the series of the
-// exponents of its blocks and masks.
-pub struct Side {
-    pub down: usize,
-    pub across: usize,
-    pub rows: usize,
-    pub columns: usize,
-    pub count: usize,
-    pub blocks: Series,
-    pub masks: Series,
-}
+use weights::Matrix;
+use weights::Side;
 
 // The most blocks and masks that a side has, and the most columns of a block.
 const MOST_WEIGHTS: usize = 80;
 
 const MOST_COLUMNS: usize = 4096;
-
-// The side of a matrix.
-fn side_of(matrix: Matrix, plan: Plan) -> Side
-    ensures { λ r. ⌜ r ≡ side matrix plan ⌝ }
-{
-    let g = plan.parameters;
-    match matrix {
-        Matrix::A => Side {
-            down: g.m as usize,
-            across: g.p as usize,
-            rows: plan.rows as usize,
-            columns: plan.inner as usize,
-            count: g.xa as usize,
-            blocks: Series::BlocksA,
-            masks: Series::MasksA,
-        },
-        Matrix::B => Side {
-            down: g.p as usize,
-            across: g.n as usize,
-            rows: plan.inner as usize,
-            columns: plan.columns as usize,
-            count: g.xb as usize,
-            blocks: Series::BlocksB,
-            masks: Series::MasksB,
-        },
-    }
-}
 
 // A buffer is not of exact length.
 fn length_test(s: Side, xs: usize, masks: usize, out: usize) -> bool
@@ -118,28 +72,6 @@ fn own_refusal(
     0
 }
 
-// The weights of a row of blocks, or of the masks: the point x to each exponent.
-fn weigh(
-    modulus: Modulus,
-    layout: Layout,
-    g: Parameters,
-    series: Series,
-    row: u8,
-    x: u32,
-    out: &mut [u32],
-)
-    requires { ⌜ length (now out) < 256 ⌝ }
-    ensures { λ _. ⌜ now (out .exit)
-        ≡ tab (λ j. x ^ term (exponents layout g) series row j % prime modulus) (length (now (out .entry))) ⌝ }
-{
-    let mut j = 0;
-    while j < out.len() {
-        let exponent = layout::exponent_of(series, layout, g, row, j as u8);
-        out[j] = field::power(modulus, x, exponent);
-        j += 1;
-    }
-}
-
 // The weights of a side: those of its blocks, row by row, and then those of its masks.
 fn side_weights(plan: Plan, s: Side, x: u32, weights: &mut [u32])
     requires { ⌜ Small s × weightCount s ≤ length (now weights) ⌝ }
@@ -147,9 +79,6 @@ fn side_weights(plan: Plan, s: Side, x: u32, weights: &mut [u32])
         ≡ weightsOf (prime (plan .modulus)) (exponents (plan .layout) (plan .parameters)) s x
         ++ drop (weightCount s) (now (weights .entry)) ⌝ }
 {
-    let modulus = plan.modulus;
-    let layout = plan.layout;
-    let g = plan.parameters;
     let blocks = s.blocks;
     let masks = s.masks;
     let down = s.down;
@@ -158,20 +87,12 @@ fn side_weights(plan: Plan, s: Side, x: u32, weights: &mut [u32])
     while k < down {
         let start = k * across;
         let end = start + across;
-        weigh(
-            modulus,
-            layout,
-            g,
-            blocks,
-            k as u8,
-            x,
-            &mut weights[start..end],
-        );
+        weights::weigh(plan, blocks, k as u8, x, &mut weights[start..end]);
         k += 1;
     }
     let start = down * across;
     let end = start + s.count;
-    weigh(modulus, layout, g, masks, 0, x, &mut weights[start..end]);
+    weights::weigh(plan, masks, 0, x, &mut weights[start..end]);
 }
 
 // Adds the blocks' part of row i of the share to the sums: each row of blocks has one row of the matrix in it.
@@ -195,6 +116,19 @@ fn add_blocks(s: Side, i: usize, weights: &[u32], xs: &[u32], sums: &mut [u64])
     }
 }
 
+// Adds the masks' part of row i of the share to the sums: each mask has one row in it.
+fn add_masks(s: Side, i: usize, weights: &[u32], masks: &[u32], sums: &mut [u64])
+    requires { ⌜ Small s × i < s .rows × weightCount s ≤ length (now weights) × length (now masks) ≡ maskLength s ⌝ }
+    ensures { λ _. ⌜ now (sums .exit)
+        ≡ tab (λ j. (getD (now (sums .entry)) j 0 + maskTerms s (now (weights .entry)) (now (masks .entry)) i j) % 2 ^ 64) (length (now (sums .entry))) ⌝ }
+{
+    let start = s.down * s.across;
+    let end = start + s.count;
+    let from = i * s.columns;
+    let block = s.rows * s.columns;
+    rows::add_rows(sums, &weights[start..end], &masks[from..], block);
+}
+
 // Row i of the share. There is a sum for each element of the output.
 fn share_row(
     modulus: Modulus,
@@ -212,15 +146,7 @@ fn share_row(
 {
     rows::clear(sums);
     add_blocks(s, i, weights, xs, sums);
-    let start = s.down * s.across;
-    let end = start + s.count;
-    let from = i * s.columns;
-    rows::add_rows(
-        sums,
-        &weights[start..end],
-        &masks[from..],
-        s.rows * s.columns,
-    );
+    add_masks(s, i, weights, masks, sums);
     rows::reduce_row(modulus, sums, out);
 }
 
@@ -293,7 +219,7 @@ pub fn share(
     match planned {
         Planned::Refused(number) => number,
         Planned::Accepted(plan) => {
-            let s = side_of(matrix, plan);
+            let s = weights::side_of(matrix, plan);
             let modulus = plan.modulus;
             let own = own_refusal(modulus, job.hosts, s, host, xs, masks, out.len());
             if own != 0 {

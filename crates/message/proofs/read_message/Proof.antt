@@ -5,10 +5,12 @@ use native.Mathlib.Omega.{arith}
 use lib.ListN.{length}
 use borrow.Author.Needs.{needs}
 use Rattle.refusal.specs.Chain.{first}
-use Rattle.message.specs.Format.{messageTests}
-use Rattle.message.proofs.Fields.{ranged, readable}
+use Rattle.header.proofs.Fields.{ranged}
+use Rattle.header.proofs.Answers.{done-told, refused-told}
+use Rattle.message.specs.Format.{messageTests, examined}
+use Rattle.message.proofs.Fields.{readable}
 use Rattle.message.proofs.Parts.{read-part}
-use Rattle.message.proofs.Answers.{examined-done, examined-refused, read-short, read-long, read-done, kept-short, kept}
+use Rattle.message.proofs.Answers.{read-short, read-long, read-done, kept-short, kept}
 use Rattle.message.proofs.read_message.Statement.{statement}
 use Rattle.message.proofs.read_message.Tie as tie
 
@@ -26,10 +28,11 @@ enum-told c = search needs
 
 -- the message was looked over and not refused
 accepted : (c : tie.After-enum-told) → first (messageTests (c .before .before .before .before .before .before .args .message .now)) ≡ 0
-accepted c = examined-done (c .before .before .before .before .before .before .args .message .now) (sym (c .before .before .examine .ensures) ∙ c .enum-told .given .1) .0
+unfolding examined
+accepted c = done-told _ _ (sym (c .before .before .examine .ensures) ∙ c .enum-told .given .1) .0
 
 long : (c : tie.After-enum-told) → 16 ≤ length (c .before .before .before .before .before .before .args .message .now)
-long c = let r = readable (c .before .before .before .before .before .before .args .message .now) (accepted c) in omega arith
+long c = readable (c .before .before .before .before .before .before .args .message .now) (accepted c) .head .long
 
 sub-read-elements : tie.Need-sub-read-elements
 sub-read-elements c = long c
@@ -59,7 +62,7 @@ returns-2 c =
     let out = a .out .now in
     let room : 4096 ≤ length out = omega (arith, x .before .if1 .left) in
     let r = readable message (accepted told) in
-    let fields = ranged _ (r .fields) in (
+    let fields = ranged _ (r .head .fields) in (
       x .examine .ensures ∙ sym (read-long message (length out) room),
       read .read-elements .ensures
           ∙ read-part message (r .whole) out (omega (arith, fields .count, room))
@@ -67,13 +70,14 @@ returns-2 c =
     )
 
 returns-3 : tie.Need-returns-3
+unfolding examined
 returns-3 c =
     let x = c .before .before in
     let a = x .before .before .before .before .args in
     let message = a .message .now in
     let out = a .out .now in
     let room : 4096 ≤ length out = omega (arith, x .before .if1 .left) in
-    let told = examined-refused message (sym (x .examine .ensures) ∙ c .enum-told2 .given .1) in
+    let told = refused-told _ _ (sym (x .examine .ensures) ∙ c .enum-told2 .given .1) in
     (x .examine .ensures ∙ sym (read-long message (length out) room), sym (kept message out room (λ z. told .1 (sym (told .0) ∙ z))))
 
 pub read-message-spec : {M : Type 1} → statement M

@@ -7,7 +7,8 @@ use borrow.Author.Needs.{needs}
 use Rattle.refusal.specs.Chain.{first}
 use Rattle.text.specs.Decimal.{put}
 use Rattle.text.proofs.Puts.{length-put}
-use Rattle.message.specs.Format.{header, writeTests}
+use Rattle.header.specs.Header.{header}
+use Rattle.message.specs.Format.{writeTests}
 use Rattle.message.proofs.Fields.{writable}
 use Rattle.message.proofs.Parts.{written-part}
 use Rattle.message.proofs.Answers.{written-done, written-refused}

@@ -6,9 +6,10 @@ use lib.ListN.{length}
 use borrow.Author.Needs.{needs}
 use Rattle.refusal.specs.Chain.{first}
 use Rattle.field.proofs.Moduli.{none-named}
-use Rattle.message.specs.Format.{elementCount, fieldTests, elementTest, writeLengthTest}
+use Rattle.header.specs.Header.{elementCount, fieldTests}
+use Rattle.header.proofs.Fields.{Ranged, ranged}
+use Rattle.message.specs.Format.{elementTest, writeLengthTest}
 use Rattle.message.proofs.Tests.{element-named, write-fields, write-length, write-element, write-none}
-use Rattle.message.proofs.Fields.{Ranged, ranged}
 use Rattle.message.proofs.write_refusal.Statement.{statement}
 use Rattle.message.proofs.write_refusal.Tie as tie
 

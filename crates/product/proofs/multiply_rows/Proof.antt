@@ -2,18 +2,19 @@
 use mathlib.Core.Path.{_≡_, refl, sym, ap, _∙_}
 use mathlib.Core.List.{List, _++_}
 use Prim.Native.Nat.{ℕ, _+_, _-_, _*_, _%_, _≤_}
-use native.Mathlib.Nat.{add-sub-cancel-left}
+use native.Mathlib.Nat.{mul-le-mul-right, add-sub-cancel-left}
 use native.Mathlib.Omega.{arith}
-use lib.ListN.{length, drop, length-drop, length-take}
+use borrow.Author.Needs.{needs}
+use lib.ListN.{length, take, drop, length-drop}
 use lib.Seq.{length-take-le, length-front}
 use Rattle.algebra.specs.Lists.{grid}
-use Rattle.algebra.proofs.Orders.{row-end}
 use Rattle.algebra.proofs.Lists.{below-part}
-use Rattle.algebra.proofs.Grids.{rows-none, rows-more, rows-all}
+use Rattle.algebra.proofs.Grids.{rows-none, rows-some, rows-all}
 use Rattle.field.specs.declared.Modulus.{Modulus}
 use Rattle.field.specs.Modulus.{prime}
 use Rattle.product.specs.Product.{productEntry, productOf}
-use Rattle.product.proofs.Rows.{row-is}
+use Rattle.product.specs.Rows.{AtOnce}
+use Rattle.product.proofs.Rows.{part-rows}
 use Rattle.product.proofs.multiply_rows.Statement.{statement}
 use Rattle.product.proofs.multiply_rows.Tie as tie
 
@@ -22,7 +23,7 @@ element : Modulus → ℕ → ℕ → List ℕ → List ℕ → ℕ → ℕ → 
 element modulus inner columns a b i j = productEntry inner columns a b i j % prime modulus
 
 abbrev Inv-loop : tie.InvT-loop
-Inv-loop modulus rows inner columns a b out₀ sums₀ i₀ out sums i =
+Inv-loop modulus rows inner columns a b out₀ sums₀ step i₀ out sums i =
     record {
       short : i ≤ rows;
       wide : length sums ≡ 4096;
@@ -31,137 +32,127 @@ Inv-loop modulus rows inner columns a b out₀ sums₀ i₀ out sums i =
     }
 
 abbrev μ-loop : tie.MeasureT-loop
-μ-loop modulus rows inner columns a b out₀ sums₀ i₀ out sums i = rows - i
+μ-loop modulus rows inner columns a b out₀ sums₀ step i₀ out sums i = rows - i
+
+at-once-requires : tie.Need-at-once-requires Inv-loop μ-loop
+at-once-requires c κs = search needs
 
 loop-holds : tie.Need-loop-holds Inv-loop μ-loop
-loop-holds c = let a = c .before .before .before .args in record { short = omega arith; wide = refl; same = refl; is = rows-none _ (a .out .now) (a .columns) }
+loop-holds c = let a = c .before .before .before .before .args in record { short = omega arith; wide = refl; same = refl; is = rows-none _ (a .out .now) (a .columns) }
+
+sub-least : tie.Need-sub-least Inv-loop μ-loop
+sub-least c = omega arith
+
+least-requires : tie.Need-least-requires Inv-loop μ-loop
+least-requires c κs = search needs
+
+-- the rows of this turn: one or two of those that are left
+turn : (c : tie.After-least Inv-loop μ-loop)
+    → let a = c .before .before .before .before .before .before .before .args in
+    let i = c .before .before .loop .i in
+    let n = c .least .result in
+    AtOnce (prime (a .modulus)) (a .inner) n × (i + n ≤ a .rows) × (i * a .inner + n * a .inner ≤ a .rows * a .inner) × (i * a .columns + n * a .columns ≤ a .rows * a .columns)
+turn c =
+    let a = c .before .before .before .before .before .before .before .args in
+    let once = c .before .before .before .at-once .ensures in
+    let n : c .before .before .loop .i + c .least .result ≤ a .rows = omega (arith, c .least .ensures) in (
+      record { some = omega (arith, c .least .ensures); few = omega (arith, c .least .ensures); room = λ h. once .room (omega (arith, c .least .ensures)) },
+      n,
+      omega (arith, mul-le-mul-right (a .inner) n),
+      omega (arith, mul-le-mul-right (a .columns) n),
+    )
 
 mul-left : tie.Need-mul-left Inv-loop μ-loop
-mul-left c =
-    let e = c .before .before .before .before .before in
-    let left = row-end (e .args .inner) (c .loop-test .taken) in
-    let right = row-end (e .args .columns) (c .loop-test .taken) in
-    omega (arith, left, right, e .pre)
+mul-left c = let t = turn c in omega arith
+
+mul-left-end : tie.Need-mul-left-end Inv-loop μ-loop
+mul-left-end c = let t = turn c in omega arith
 
 add-left-end : tie.Need-add-left-end Inv-loop μ-loop
-add-left-end c =
-    let e = c .before .before .before .before .before in
-    let left = row-end (e .args .inner) (c .loop-test .taken) in
-    let right = row-end (e .args .columns) (c .loop-test .taken) in
-    omega (arith, left, right, e .pre)
+add-left-end c = let t = turn c in omega arith
 
 mul-start : tie.Need-mul-start Inv-loop μ-loop
-mul-start c =
-    let e = c .before .before .before .before .before in
-    let left = row-end (e .args .inner) (c .loop-test .taken) in
-    let right = row-end (e .args .columns) (c .loop-test .taken) in
-    omega (arith, left, right, e .pre)
+mul-start c = let t = turn c in omega arith
+
+mul-end : tie.Need-mul-end Inv-loop μ-loop
+mul-end c = let t = turn c in omega arith
 
 add-end : tie.Need-add-end Inv-loop μ-loop
-add-end c =
-    let e = c .before .before .before .before .before in
-    let left = row-end (e .args .inner) (c .loop-test .taken) in
-    let right = row-end (e .args .columns) (c .loop-test .taken) in
-    omega (arith, left, right, e .pre)
+add-end c = let t = turn c in omega arith
 
-mul-product-row : tie.Need-mul-product-row Inv-loop μ-loop
-mul-product-row c =
-    let e = c .before .before .before .before .before in
-    let left = row-end (e .args .inner) (c .loop-test .taken) in
-    let right = row-end (e .args .columns) (c .loop-test .taken) in
-    omega (arith, left, right, e .pre)
+mul-few-rows : tie.Need-mul-few-rows Inv-loop μ-loop
+mul-few-rows c = let t = turn c in omega arith
 
-sub-product-row : tie.Need-sub-product-row Inv-loop μ-loop
-sub-product-row c =
-    let e = c .before .before .before .before .before in
-    let left = row-end (e .args .inner) (c .loop-test .taken) in
-    let right = row-end (e .args .columns) (c .loop-test .taken) in
-    omega (arith, left, right, e .pre)
+sub-few-rows : tie.Need-sub-few-rows Inv-loop μ-loop
+sub-few-rows c = let t = turn c in omega arith
 
-part-product-row-start : tie.Need-part-product-row-start Inv-loop μ-loop
-part-product-row-start c =
-    let e = c .before .before .before .before .before in
-    let left = row-end (e .args .inner) (c .loop-test .taken) in
-    let right = row-end (e .args .columns) (c .loop-test .taken) in
-    omega (arith, left, right, e .pre)
+part-few-rows-start : tie.Need-part-few-rows-start Inv-loop μ-loop
+part-few-rows-start c = let t = turn c in omega arith
 
-part-product-row-end : tie.Need-part-product-row-end Inv-loop μ-loop
-part-product-row-end c =
-    let e = c .before .before .before .before .before in
-    let left = row-end (e .args .inner) (c .loop-test .taken) in
-    let right = row-end (e .args .columns) (c .loop-test .taken) in
-    omega (arith, left, right, e .pre)
+part-few-rows-end : tie.Need-part-few-rows-end Inv-loop μ-loop
+part-few-rows-end c = let t = turn c in omega arith
 
 array-borrow-prefix-sums : tie.Need-array-borrow-prefix-sums Inv-loop μ-loop
 array-borrow-prefix-sums c = omega arith
 
-slice-aggregate-product-row : tie.Need-slice-aggregate-product-row Inv-loop μ-loop
-slice-aggregate-product-row c = sym (length-take-le _ _ (omega arith))
+slice-aggregate-few-rows : tie.Need-slice-aggregate-few-rows Inv-loop μ-loop
+slice-aggregate-few-rows c = sym (length-take-le _ _ (omega arith))
 
-mul-product-row-2 : tie.Need-mul-product-row-2 Inv-loop μ-loop
-mul-product-row-2 c =
-    let e = c .before .before .before .before .before .before .before in
-    let left = row-end (e .args .inner) (c .before .before .loop-test .taken) in
-    let right = row-end (e .args .columns) (c .before .before .loop-test .taken) in
-    omega (arith, left, right, e .pre)
+mul-few-rows-2 : tie.Need-mul-few-rows-2 Inv-loop μ-loop
+mul-few-rows-2 c = let t = turn (c .before .before) in omega arith
 
-sub-product-row-2 : tie.Need-sub-product-row-2 Inv-loop μ-loop
-sub-product-row-2 c =
-    let e = c .before .before .before .before .before .before .before in
-    let left = row-end (e .args .inner) (c .before .before .loop-test .taken) in
-    let right = row-end (e .args .columns) (c .before .before .loop-test .taken) in
-    omega (arith, left, right, e .pre)
+sub-few-rows-2 : tie.Need-sub-few-rows-2 Inv-loop μ-loop
+sub-few-rows-2 c = let t = turn (c .before .before) in omega arith
 
-part-product-row-start-2 : tie.Need-part-product-row-start-2 Inv-loop μ-loop
-part-product-row-start-2 c =
-    let e = c .before .before .before .before .before .before .before in
-    let left = row-end (e .args .inner) (c .before .before .loop-test .taken) in
-    let right = row-end (e .args .columns) (c .before .before .loop-test .taken) in
-    omega (arith, left, right, e .pre)
+part-few-rows-start-2 : tie.Need-part-few-rows-start-2 Inv-loop μ-loop
+part-few-rows-start-2 c = let t = turn (c .before .before) in omega arith
 
-part-product-row-end-2 : tie.Need-part-product-row-end-2 Inv-loop μ-loop
-part-product-row-end-2 c =
-    let e = c .before .before .before .before .before .before .before in
-    let left = row-end (e .args .inner) (c .before .before .loop-test .taken) in
-    let right = row-end (e .args .columns) (c .before .before .loop-test .taken) in
-    omega (arith, left, right, e .pre)
+part-few-rows-end-2 : tie.Need-part-few-rows-end-2 Inv-loop μ-loop
+part-few-rows-end-2 c = let t = turn (c .before .before) in omega arith
 
-product-row-requires : tie.Need-product-row-requires Inv-loop μ-loop
-product-row-requires c κs =
+few-rows-requires : tie.Need-few-rows-requires Inv-loop μ-loop
+few-rows-requires c κs =
     let l = c .before .before .before in
-    let e = l .before .before .before .before .before in
+    let e = l .before .before .before .before .before .before .before in
     let a = e .args in
-    let i = l .before .loop .i in
-    let left = row-end (a .inner) (l .loop-test .taken) in
-    let right = row-end (a .columns) (l .loop-test .taken) in
-    let sums = length-take-le (a .columns) (l .before .loop .sums) (omega arith) in
-    let size = length-take-le (a .columns) (drop (i * a .columns) (l .before .loop .out)) (omega (arith, right, length-drop (i * a .columns) (l .before .loop .out))) in
-    rw (add-sub-cancel-left, add-sub-cancel-left)
-    (below-part (prime (a .modulus)) (a .a .now) (e .pre .0) (a .inner) (i * a .inner), e .pre .1, omega (arith, length-take (a .inner) (drop (i * a .inner) (a .a .now))), sums ∙ sym size)
+    let i = l .before .before .loop .i in
+    let n = l .least .result in
+    let out = l .before .before .loop .out in
+    let t = turn l in
+    rw (add-sub-cancel-left, add-sub-cancel-left) (
+      t .0,
+      below-part (prime (a .modulus)) (a .a .now) (e .pre .0) (n * a .inner) (i * a .inner),
+      e .pre .1,
+      e .pre .4,
+      length-take-le (n * a .inner) (drop (i * a .inner) (a .a .now)) (omega (arith, length-drop (i * a .inner) (a .a .now))),
+      length-take-le (n * a .columns) (drop (i * a .columns) out) (omega (arith, length-drop (i * a .columns) out))
+          ∙ ap (λ (k : ℕ). n * k) (sym (length-take-le (a .columns) (l .before .before .loop .sums) (omega arith))),
+    )
 
 add-i : tie.Need-add-i Inv-loop μ-loop
-add-i c = omega arith
+add-i c = let t = turn (c .before .before .before .before .before .before .before) in omega arith
 
 loop-less : tie.Need-loop-less Inv-loop μ-loop
-loop-less c = omega arith
+loop-less c = let t = turn (c .before .before .before .before .before .before .before) in omega arith
 
 loop-again : tie.Need-loop-again Inv-loop μ-loop
 unfolding element
 loop-again c =
-    let l = c .before .before .before .before .before .before .before in
-    let e = l .before .before .before .before .before in
-    let a = e .args in
-    let i = l .before .loop .i in
-    let out = l .before .loop .out in
-    let left = row-end (a .inner) (l .loop-test .taken) in
-    let right = row-end (a .columns) (l .loop-test .taken) in
-    let row = rw (add-sub-cancel-left, add-sub-cancel-left) at (c .before .before .before .product-row .ensures) in
-    let is = row ∙ row-is (a .inner) (a .columns) (a .a .now) (a .b .now) i (omega (arith, left)) (prime (a .modulus)) out (omega (arith, right)) in
+    let rows = c .before .before .before in
+    let l = rows .before .before .before .before in
+    let a = l .before .before .before .before .before .before .before .args in
+    let loop = l .before .before .loop in
+    let n = l .least .result in
+    let t = turn l in
+    let made = rw add-sub-cancel-left at (rows .few-rows .ensures) in
+    let is = made
+    ∙ ap (λ (k : ℕ). productOf (prime (a .modulus)) n (a .inner) k (take (n * a .inner) (drop (loop .i * a .inner) (a .a .now))) (a .b .now)) (length-take-le (a .columns) (loop .sums) (omega arith))
+    ∙ part-rows (prime (a .modulus)) (a .inner) (a .columns) (a .a .now) (a .b .now) (loop .i) n in
     record {
       short = omega arith;
-      wide = length-front (l .before .loop .sums) (c .before .before .before .product-row .last .1 .1 .1 .0) (a .columns) (c .before .before .sums2 .given) ∙ l .before .loop .inv .wide;
+      wide = length-front (loop .sums) (rows .few-rows .last .1 .1 .1 .1 .1 .0) (a .columns) (c .before .before .sums2 .given) ∙ loop .inv .wide;
       same = omega arith;
-      is = rw add-sub-cancel-left (rows-more (element (a .modulus) (a .inner) (a .columns) (a .a .now) (a .b .now)) (a .out .now) out _ (a .columns) i (l .before .loop .inv .is) is);
+      is = rw add-sub-cancel-left (rows-some (element (a .modulus) (a .inner) (a .columns) (a .a .now) (a .b .now)) (a .out .now) (loop .out) _ (a .columns) (loop .i) n (loop .inv .is) is);
     }
 
 same-length : tie.Need-same-length Inv-loop μ-loop
@@ -171,7 +162,7 @@ returns : tie.Need-returns Inv-loop μ-loop
 unfolding productOf element
 returns c =
     let l = c .before in
-    let e = l .before .before .before .before in
+    let e = l .before .before .before .before .before in
     let a = e .args in
     let all : l .loop .i ≡ a .rows = omega arith in
     rows-all (element (a .modulus) (a .inner) (a .columns) (a .a .now) (a .b .now)) (a .out .now) (l .loop .out) (a .rows) (a .columns) (e .pre .3)
@@ -183,22 +174,27 @@ multiply-rows-spec =
     (tie.spec
     Inv-loop
     μ-loop
+    at-once-requires
     loop-holds
+    sub-least
+    least-requires
     mul-left
+    mul-left-end
     add-left-end
     mul-start
+    mul-end
     add-end
-    mul-product-row
-    sub-product-row
-    part-product-row-start
-    part-product-row-end
+    mul-few-rows
+    sub-few-rows
+    part-few-rows-start
+    part-few-rows-end
     array-borrow-prefix-sums
-    slice-aggregate-product-row
-    mul-product-row-2
-    sub-product-row-2
-    part-product-row-start-2
-    part-product-row-end-2
-    product-row-requires
+    slice-aggregate-few-rows
+    mul-few-rows-2
+    sub-few-rows-2
+    part-few-rows-start-2
+    part-few-rows-end-2
+    few-rows-requires
     add-i
     loop-less
     loop-again

@@ -5,7 +5,7 @@ use Prim.Native.Nat.{ℕ}
 use lib.ListN.{length}
 use Rattle.field.specs.Modulus.{prime}
 use Rattle.rows.specs.Combination.{added, reduced}
-use Rattle.product.proofs.Rows.{row-exact}
+use Rattle.product.proofs.Rows.{one-row}
 use borrow.Author.Needs.{needs}
 use Rattle.product.proofs.product_row.Statement.{statement}
 use Rattle.product.proofs.product_row.Tie as tie
@@ -35,7 +35,7 @@ returns c =
     let pre = start .pre in
     reduce .ensures
     ∙ ap (λ (sums : List ℕ). reduced (prime (a .modulus)) sums (a .out .now)) (after .add-rows .ensures ∙ ap (λ (sums : List ℕ). added sums (a .row .now) (a .b .now) (length (a .out .now))) (cleared .clear .ensures))
-    ∙ row-exact (a .modulus) (a .row .now) (a .b .now) (a .sums .now) (a .out .now) (pre .0) (pre .1) (pre .2) (pre .3)
+    ∙ one-row (a .modulus) (a .row .now) (a .b .now) (a .sums .now) (a .out .now) (pre .0) (pre .1) (pre .2) (pre .3)
 
 pub product-row-spec : {M : Type 1} → statement M
 product-row-spec =

@@ -1,29 +1,22 @@
 -- `share::add_blocks` meets its contract.
-use mathlib.Core.Path.{ap₂}
-use native.Mathlib.Nat.{add-sub-cancel-left}
-use native.Mathlib.Numerals.{add-one}
-use lib.ListN.{length-drop}
-use lib.Seq.{take-all}
-use Rattle.rows.specs.Combination.{added}
-use Rattle.rows.proofs.Steps.{upTo}
-use Rattle.rows.proofs.Exact.{added-more}
-use Rattle.algebra.proofs.Grids.{tab-cong}
-use Rattle.share.specs.Weights.{weightCount}
-use mathlib.Core.List.{List}
-use lib.ListN.{take, drop}
-use Rattle.rows.specs.Combination.{combination}
-use mathlib.Core.Path.{_≡_, refl, ap, _∙_}
-use mathlib.Core.List.{[]}
+use mathlib.Core.Path.{_≡_, refl, ap, ap₂, _∙_}
+use mathlib.Core.List.{List, []}
 use Prim.Native.Nat.{ℕ, _+_, _-_, _*_, _%_, _^_, _≤_}
-use native.Mathlib.Nat.{mul-le-mul}
+use native.Mathlib.Nat.{le-refl, add-sub-cancel-left}
+use native.Mathlib.Numerals.{add-one}
 use native.Mathlib.Omega.{arith}
 use borrow.Author.Needs.{needs}
-use lib.ListN.{length, getD}
+use lib.ListN.{length, getD, take, drop, length-drop}
+use lib.Seq.{take-all}
 use Rattle.algebra.specs.Lists.{tab}
 use Rattle.algebra.specs.Sums.{sum}
-use Rattle.rows.proofs.Steps.{up-to-none}
-use Rattle.share.specs.Weights.{blockTerms}
-use Rattle.share.proofs.Places.{placed}
+use Rattle.algebra.proofs.Grids.{tab-cong}
+use Rattle.rows.specs.Combination.{combination, added}
+use Rattle.rows.proofs.Steps.{upTo, up-to-none}
+use Rattle.rows.proofs.Exact.{added-more}
+use Rattle.weights.proofs.Parts.{Part, row-part}
+use Rattle.share.specs.Rows.{blockTerms}
+use Rattle.share.proofs.Places.{Placed, placed, width-fits}
 use Rattle.share.proofs.add_blocks.Statement.{statement}
 use Rattle.share.proofs.add_blocks.Tie as tie
 
@@ -50,7 +43,7 @@ abbrev μ-loop : tie.MeasureT-loop
 μ-loop i weights xs sums₀ down across rows columns width k₀ sums k = down - k
 
 mul-width : tie.Need-mul-width Inv-loop μ-loop
-mul-width c = let e = c .before .before .before in omega (arith, mul-le-mul (e .pre .0 .across) (e .pre .0 .columns))
+mul-width c = let e = c .before .before .before in width-fits (e .args .s) (e .pre .0)
 
 loop-holds : tie.Need-loop-holds Inv-loop μ-loop
 unfolding upTo sum
@@ -58,84 +51,53 @@ loop-holds c =
     let a = c .before .before .before .args in
     record { is = up-to-none (a .sums .now) [] [] 0 (λ j l. c .slice-known .given j .fits); short = omega arith; same = refl }
 
+-- the weights of row k of the blocks, and row i of it
+weights-row : (c : tie.In-loop Inv-loop μ-loop)
+    → Part (c .before .loop .k * c .before .before .before .before .before .args .s .across) (c .before .before .before .before .before .args .s .across) (length (c .before .before .before .before .before .args .weights .now))
+weights-row c = let e = c .before .before .before .before .before in row-part (e .args .s) (e .pre .0) _ (e .pre .2) _ (c .loop-test .taken)
+
+matrix-row : (c : tie.In-loop Inv-loop μ-loop)
+    → Placed (c .before .before .before .before .before .args .s) (c .before .loop .k) (c .before .before .before .before .before .args .i) (length (c .before .before .before .before .before .args .xs .now))
+matrix-row c = let e = c .before .before .before .before .before in placed (e .args .s) (e .pre .0) _ _ _ (c .loop-test .taken) (e .pre .1) (e .pre .3)
+
 mul-start : tie.Need-mul-start Inv-loop μ-loop
-mul-start c =
-    let e = c .before .before .before .before .before in
-    let p = placed (e .args .s) (c .before .loop .k) (e .args .i) (e .pre .0) (c .loop-test .taken) (e .pre .1) in
-    omega (arith, p, e .pre .2, e .pre .3)
+mul-start c = weights-row c .start-fits
 
 add-end : tie.Need-add-end Inv-loop μ-loop
-add-end c =
-    let e = c .before .before .before .before .before in
-    let p = placed (e .args .s) (c .before .loop .k) (e .args .i) (e .pre .0) (c .loop-test .taken) (e .pre .1) in
-    omega (arith, p, e .pre .2, e .pre .3)
+add-end c = weights-row c .end-fits
 
 mul-from : tie.Need-mul-from Inv-loop μ-loop
-mul-from c =
-    let e = c .before .before .before .before .before in
-    let p = placed (e .args .s) (c .before .loop .k) (e .args .i) (e .pre .0) (c .loop-test .taken) (e .pre .1) in
-    omega (arith, p, e .pre .2, e .pre .3)
+mul-from c = matrix-row c .first-fits
 
 add-from : tie.Need-add-from Inv-loop μ-loop
-add-from c =
-    let e = c .before .before .before .before .before in
-    let p = placed (e .args .s) (c .before .loop .k) (e .args .i) (e .pre .0) (c .loop-test .taken) (e .pre .1) in
-    omega (arith, p, e .pre .2, e .pre .3)
+add-from c = matrix-row c .row-fits
 
 mul-from-2 : tie.Need-mul-from-2 Inv-loop μ-loop
-mul-from-2 c =
-    let e = c .before .before .before .before .before in
-    let p = placed (e .args .s) (c .before .loop .k) (e .args .i) (e .pre .0) (c .loop-test .taken) (e .pre .1) in
-    omega (arith, p, e .pre .2, e .pre .3)
+mul-from-2 c = matrix-row c .matrix .from-fits
 
 mul-add-rows : tie.Need-mul-add-rows Inv-loop μ-loop
-mul-add-rows c =
-    let e = c .before .before .before .before .before .before in
-    let p = placed (e .args .s) (c .before .before .loop .k) (e .args .i) (e .pre .0) (c .before .loop-test .taken) (e .pre .1) in
-    omega (arith, p, e .pre .2, e .pre .3)
+mul-add-rows c = weights-row (c .before) .place-fits
 
 sub-add-rows : tie.Need-sub-add-rows Inv-loop μ-loop
-sub-add-rows c =
-    let e = c .before .before .before .before .before .before in
-    let p = placed (e .args .s) (c .before .before .loop .k) (e .args .i) (e .pre .0) (c .before .loop-test .taken) (e .pre .1) in
-    omega (arith, p, e .pre .2, e .pre .3)
+sub-add-rows c = weights-row (c .before) .ordered
 
 part-add-rows-start : tie.Need-part-add-rows-start Inv-loop μ-loop
-part-add-rows-start c =
-    let e = c .before .before .before .before .before .before in
-    let p = placed (e .args .s) (c .before .before .loop .k) (e .args .i) (e .pre .0) (c .before .loop-test .taken) (e .pre .1) in
-    omega (arith, p, e .pre .2, e .pre .3)
+part-add-rows-start c = weights-row (c .before) .ordered
 
 part-add-rows-end : tie.Need-part-add-rows-end Inv-loop μ-loop
-unfolding weightCount
-part-add-rows-end c =
-    let e = c .before .before .before .before .before .before in
-    let p = placed (e .args .s) (c .before .before .loop .k) (e .args .i) (e .pre .0) (c .before .loop-test .taken) (e .pre .1) in
-    omega (arith, p, e .pre .2, e .pre .3)
+part-add-rows-end c = weights-row (c .before) .within
 
 mul-add-rows-2 : tie.Need-mul-add-rows-2 Inv-loop μ-loop
-mul-add-rows-2 c =
-    let e = c .before .before .before .before .before .before .before in
-    let p = placed (e .args .s) (c .before .before .before .loop .k) (e .args .i) (e .pre .0) (c .before .before .loop-test .taken) (e .pre .1) in
-    omega (arith, p, e .pre .2, e .pre .3)
+mul-add-rows-2 c = matrix-row (c .before .before) .matrix .place-fits
 
 sub-add-rows-2 : tie.Need-sub-add-rows-2 Inv-loop μ-loop
-sub-add-rows-2 c =
-    let e = c .before .before .before .before .before .before .before in
-    let p = placed (e .args .s) (c .before .before .before .loop .k) (e .args .i) (e .pre .0) (c .before .before .loop-test .taken) (e .pre .1) in
-    omega (arith, p, e .pre .2, e .pre .3)
+sub-add-rows-2 c = matrix-row (c .before .before) .matrix .within
 
 part-add-rows-start-2 : tie.Need-part-add-rows-start-2 Inv-loop μ-loop
-part-add-rows-start-2 c =
-    let e = c .before .before .before .before .before .before .before in
-    let p = placed (e .args .s) (c .before .before .before .loop .k) (e .args .i) (e .pre .0) (c .before .before .loop-test .taken) (e .pre .1) in
-    omega (arith, p, e .pre .2, e .pre .3)
+part-add-rows-start-2 c = matrix-row (c .before .before) .matrix .within
 
 part-add-rows-end-2 : tie.Need-part-add-rows-end-2 Inv-loop μ-loop
-part-add-rows-end-2 c =
-    let e = c .before .before .before .before .before .before .before in
-    let p = placed (e .args .s) (c .before .before .before .loop .k) (e .args .i) (e .pre .0) (c .before .before .loop-test .taken) (e .pre .1) in
-    omega (arith, p, e .pre .2, e .pre .3)
+part-add-rows-end-2 c = le-refl _
 
 add-rows-requires : tie.Need-add-rows-requires Inv-loop μ-loop
 add-rows-requires c κs = search needs

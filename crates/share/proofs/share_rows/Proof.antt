@@ -1,19 +1,20 @@
 -- `share::share_rows` meets its contract.
-use mathlib.Core.Path.{_≡_, refl, sym, ap, _∙_}
+use mathlib.Core.Path.{_≡_, refl, sym, ap, _∙_, subst}
 use mathlib.Core.List.{List, _++_}
 use Prim.Native.Nat.{ℕ, _+_, _-_, _*_, _%_, _≤_}
 use native.Mathlib.Nat.{add-sub-cancel-left}
 use native.Mathlib.Omega.{arith}
-use lib.ListN.{length, take, drop, length-drop}
+use lib.ListN.{length, drop}
 use lib.Seq.{length-take-le, length-front}
-use Rattle.algebra.specs.Lists.{grid}
-use Rattle.algebra.proofs.Orders.{row-end}
+use Rattle.algebra.specs.Lists.{tab, grid}
 use Rattle.algebra.proofs.Grids.{rows-none, rows-more, rows-all}
 use Rattle.field.specs.declared.Modulus.{Modulus}
 use Rattle.field.specs.Modulus.{prime}
-use Rattle.share.specs.declared.Side.{Side}
+use Rattle.weights.specs.declared.Side.{Side}
 use Rattle.share.specs.Sharing.{blockLength}
-use Rattle.share.specs.Weights.{rowSums}
+use Rattle.share.specs.Rows.{rowSums}
+use Rattle.weights.proofs.Parts.{Part, part-length}
+use Rattle.share.proofs.Places.{block-row}
 use Rattle.share.proofs.share_rows.Statement.{statement}
 use Rattle.share.proofs.share_rows.Tie as tie
 
@@ -36,73 +37,50 @@ abbrev μ-loop : tie.MeasureT-loop
 loop-holds : tie.Need-loop-holds Inv-loop μ-loop
 loop-holds c = let a = c .before .before .before .before .args in record { short = omega arith; wide = refl; same = refl; is = rows-none _ (a .out .now) (a .s .columns) }
 
-mul-start : tie.Need-mul-start Inv-loop μ-loop
-mul-start c =
+-- row i of the output
+out-row : (c : tie.In-loop Inv-loop μ-loop)
+    → Part (c .before .loop .i * c .before .before .before .before .before .before .args .s .columns) (c .before .before .before .before .before .before .args .s .columns) (length (c .before .loop .out))
+out-row c =
     let e = c .before .before .before .before .before .before in
-    let small = e .pre .0 .small in
-    let end = row-end (e .args .s .columns) (c .loop-test .taken) in
-    omega (arith, end, small .block, small .columns, e .pre .1)
+    block-row (e .args .s) (e .pre .0 .small) _ _ (c .loop-test .taken) (c .before .loop .inv .same ∙ e .pre .1)
+
+mul-start : tie.Need-mul-start Inv-loop μ-loop
+mul-start c = out-row c .start-fits
 
 add-end : tie.Need-add-end Inv-loop μ-loop
-add-end c =
+add-end c = out-row c .end-fits
+
+-- there is a sum for each column
+sums-room : (c : tie.In-loop Inv-loop μ-loop) → c .before .before .before .before .before .before .args .s .columns ≤ length (c .before .loop .sums)
+sums-room c =
     let e = c .before .before .before .before .before .before in
-    let small = e .pre .0 .small in
-    let end = row-end (e .args .s .columns) (c .loop-test .taken) in
-    omega (arith, end, small .block, small .columns, e .pre .1)
+    subst (λ (n : ℕ). e .args .s .columns ≤ n) (sym (c .before .loop .inv .wide)) (e .pre .0 .small .columns)
 
 array-borrow-prefix-sums : tie.Need-array-borrow-prefix-sums Inv-loop μ-loop
-array-borrow-prefix-sums c = let small = c .before .before .before .before .before .before .pre .0 .small in omega arith
+array-borrow-prefix-sums c = sums-room c
 
 slice-aggregate-share-row : tie.Need-slice-aggregate-share-row Inv-loop μ-loop
-slice-aggregate-share-row c =
-    let l = c .before in
-    let small = l .before .before .before .before .before .before .pre .0 .small in
-    sym (length-take-le _ _ (omega arith))
+slice-aggregate-share-row c = sym (length-take-le _ _ (sums-room (c .before)))
 
 mul-share-row : tie.Need-mul-share-row Inv-loop μ-loop
-unfolding blockLength
-mul-share-row c =
-    let e = c .before .before .before .before .before .before .before in
-    let small = e .pre .0 .small in
-    let end = row-end (e .args .s .columns) (c .before .loop-test .taken) in
-    omega (arith, end, small .block, small .columns, e .pre .1)
+mul-share-row c = out-row (c .before) .place-fits
 
 sub-share-row : tie.Need-sub-share-row Inv-loop μ-loop
-unfolding blockLength
-sub-share-row c =
-    let e = c .before .before .before .before .before .before .before in
-    let small = e .pre .0 .small in
-    let end = row-end (e .args .s .columns) (c .before .loop-test .taken) in
-    omega (arith, end, small .block, small .columns, e .pre .1)
+sub-share-row c = out-row (c .before) .ordered
 
 part-share-row-start : tie.Need-part-share-row-start Inv-loop μ-loop
-unfolding blockLength
-part-share-row-start c =
-    let e = c .before .before .before .before .before .before .before in
-    let small = e .pre .0 .small in
-    let end = row-end (e .args .s .columns) (c .before .loop-test .taken) in
-    omega (arith, end, small .block, small .columns, e .pre .1)
+part-share-row-start c = out-row (c .before) .ordered
 
 part-share-row-end : tie.Need-part-share-row-end Inv-loop μ-loop
-unfolding blockLength
-part-share-row-end c =
-    let e = c .before .before .before .before .before .before .before in
-    let small = e .pre .0 .small in
-    let end = row-end (e .args .s .columns) (c .before .loop-test .taken) in
-    omega (arith, end, small .block, small .columns, e .pre .1)
+part-share-row-end c = out-row (c .before) .within
 
 share-row-requires : tie.Need-share-row-requires Inv-loop μ-loop
-unfolding blockLength
 share-row-requires c κs =
-    let l = c .before .before in
-    let e = l .before .before .before .before .before .before in
-    let a = e .args in
-    let small = e .pre .0 .small in
-    let i = l .before .loop .i in
-    let end = row-end (a .s .columns) (l .loop-test .taken) in
-    let sums = length-take-le (a .s .columns) (l .before .loop .sums) (omega arith) in
-    let size = length-take-le (a .s .columns) (drop (i * a .s .columns) (l .before .loop .out)) (omega (arith, end, e .pre .1, length-drop (i * a .s .columns) (l .before .loop .out))) in
-    (e .pre .0, l .loop-test .taken, rw add-sub-cancel-left (sums ∙ sym size))
+    let l = c .before .before in (
+      l .before .before .before .before .before .before .pre .0,
+      l .loop-test .taken,
+      length-take-le _ _ (sums-room l) ∙ sym (part-length _ _ _ (out-row l .within)),
+    )
 
 add-i : tie.Need-add-i Inv-loop μ-loop
 add-i c = omega arith
@@ -111,22 +89,18 @@ loop-less : tie.Need-loop-less Inv-loop μ-loop
 loop-less c = omega arith
 
 loop-again : tie.Need-loop-again Inv-loop μ-loop
-unfolding blockLength
 loop-again c =
     let l = c .before .before .before .before .before .before in
-    let e = l .before .before .before .before .before .before in
-    let a = e .args in
+    let a = l .before .before .before .before .before .before .args in
     let i = l .before .loop .i in
-    let out = l .before .loop .out in
-    let end = row-end (a .s .columns) (l .loop-test .taken) in
-    let size : length (take (a .s .columns) (drop (i * a .s .columns) out)) ≡ a .s .columns
-    = length-take-le (a .s .columns) (drop (i * a .s .columns) out) (omega (arith, end, e .pre .1, length-drop (i * a .s .columns) out)) in
-    let row = rw (add-sub-cancel-left, size) at (c .before .before .before .share-row .ensures) in
+    let call = c .before .before .before .share-row in
+    let f = element (a .modulus) (a .s) (a .weights .now) (a .xs .now) (a .masks .now) in
     record {
       short = omega arith;
-      wide = length-front (l .before .loop .sums) (c .before .before .before .share-row .last .1 .1 .1 .1 .1 .1 .0) (a .s .columns) (c .before .before .sums2 .given) ∙ l .before .loop .inv .wide;
+      wide = length-front (l .before .loop .sums) (call .last .1 .1 .1 .1 .1 .1 .0) (a .s .columns) (c .before .before .sums2 .given) ∙ l .before .loop .inv .wide;
       same = omega arith;
-      is = rw add-sub-cancel-left (rows-more (element (a .modulus) (a .s) (a .weights .now) (a .xs .now) (a .masks .now)) (a .out .now) out _ (a .s .columns) i (l .before .loop .inv .is) row);
+      is = rw add-sub-cancel-left (rows-more f (a .out .now) (l .before .loop .out) _ (a .s .columns) i (l .before .loop .inv .is)
+          (call .ensures ∙ ap (tab (f i)) (part-length _ _ _ (out-row l .within))));
     }
 
 same-length : tie.Need-same-length Inv-loop μ-loop

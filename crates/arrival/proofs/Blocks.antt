@@ -1,0 +1,32 @@
+-- A block of the store is written over.
+--
+--   put-part    the elements part of a whole message is read into the block
+use mathlib.Core.Path.{_≡_, ap, ap₂, _∙_}
+use mathlib.Core.List.{List, _++_, append-nil}
+use Prim.Native.Nat.{ℕ, _+_, _*_, _≤_}
+use native.Mathlib.Omega.{arith}
+use lib.ListN.{length, take, drop, length-drop, drop-of-length-le}
+use lib.Seq.{length-take-le, drop-drop}
+use Rattle.elements.specs.Bytes.{elementsOf, common}
+use Rattle.header.specs.Header.{headerOf, elementCount}
+use Rattle.message.specs.Format.{elements}
+use Rattle.message.proofs.Parts.{Rest, read-part}
+use Rattle.arrival.specs.Arriving.{withBlock}
+
+module _ (message store : List ℕ) (size place : ℕ) (count : elementCount (headerOf message) ≡ size) (whole : length message ≡ 16 + 4 * size)
+    (fits : place * size + size ≤ length store) where
+  -- the block, as it is lent
+  abbrev lent : ℕ → List ℕ
+  lent n = take n (drop (place * size) store)
+
+  pub put-part : (n : ℕ) (part : List ℕ) → n ≡ size
+      → part ≡ elementsOf (common (Rest message) (lent n)) (Rest message) ++ drop (common (Rest message) (lent n)) (lent n)
+      → take (place * size) store ++ (part ++ drop n (drop (place * size) store)) ≡ withBlock size store place (elements message)
+  unfolding withBlock
+  put-part n part all is =
+      let wide : length (lent n) ≡ size = length-take-le n (drop (place * size) store) (omega (arith, length-drop (place * size) store)) ∙ all in
+      let full = drop-of-length-le (lent n) {i = elementCount (headerOf message)} (omega (arith, count, wide)) in
+      let read : part ≡ elements message
+      = is ∙ read-part message (omega (arith, count)) (lent n) (omega (arith, count, wide)) ∙ ap (λ (l : List ℕ). elements message ++ l) full ∙ append-nil (elements message) in
+      ap₂ (λ (l r : List ℕ). take (place * size) store ++ (l ++ r)) read
+      (drop-drop n (place * size) store ∙ ap (λ (k : ℕ). drop (place * size + k) store) all)

@@ -1,0 +1,28 @@
+-- What reading answers, by the number of the first test that fits.
+--
+--   done-by, refused-by    the answer of a number, which is 0 or is not
+--   done-told, refused-told  and what an answer tells of its number
+use mathlib.Core.Path.{_≡_, refl, sym, ap, _∙_}
+use Prim.Native.Nat.{ℕ, zero, suc}
+use native.Mathlib.Nat.{suc-ne-zero}
+use Rattle.refusal.specs.Chain.{answer}
+use Rattle.refusal.proofs.Chains.{answer-done, answer-refused}
+use Rattle.header.specs.declared.Header.{Header}
+use Rattle.header.specs.declared.Reading.the-variants.{Done, Refused}
+
+module _ (h : Header) (number : ℕ) where
+  pub done-by : {k : Header} → k ≡ h → number ≡ 0 → Done k ≡ answer number (Done h) Refused
+  done-by same e = ap Done same ∙ sym (answer-done (Done h) Refused number e)
+
+  pub refused-by : (n : ℕ) → (n ≡ 0 → ⊥) → number ≡ n → Refused n ≡ answer number (Done h) Refused
+  refused-by n ne e = sym (ap (λ (k : ℕ). answer k (Done h) Refused) e ∙ answer-refused (Done h) Refused n ne)
+
+pub done-told : (h : Header) (number : ℕ) {k : Header} → answer number (Done h) Refused ≡ Done k → (number ≡ 0) × (k ≡ h)
+unfolding answer
+done-told h zero e = (refl, cc)
+done-told h (suc n) e = let z : _≡_ {A = ℕ} 1 0 = cc in absurd (suc-ne-zero 0 z)
+
+pub refused-told : (h : Header) (number : ℕ) {n : ℕ} → answer number (Done h) Refused ≡ Refused n → (number ≡ n) × (n ≡ 0 → ⊥)
+unfolding answer
+refused-told h zero e = let z : _≡_ {A = ℕ} 1 0 = cc in absurd (suc-ne-zero 0 z)
+refused-told h (suc k) {n} e = let same : suc k ≡ n = cc in (same, λ z. suc-ne-zero k (same ∙ z))

@@ -1,0 +1,5 @@
+-- Laws of headers.
+pub mod Tests
+pub mod Fields
+pub mod Headers
+pub mod Answers

@@ -1,0 +1,2 @@
+-- The header of a message: its bytes, its fields and their tests.
+pub mod Header

@@ -1,0 +1,2 @@
+-- Laws of Euclid's remainders.
+pub mod Euclid

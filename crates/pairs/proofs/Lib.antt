@@ -1,0 +1,2 @@
+-- Laws of packed rows.
+pub mod Exact

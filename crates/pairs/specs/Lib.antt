@@ -1,0 +1,2 @@
+-- Two rows as one.
+pub mod Packing

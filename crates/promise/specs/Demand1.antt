@@ -1,0 +1,67 @@
+-- Demand 1 (00): "Every plan, share, product, message, arrival and decoding inside the sheet's limits is carried out, and only
+-- the named part of a lent buffer is written. Every other input, a garden heard a second time included, gets the first refusal
+-- number that fits it in the sheet's order, and no element of any lent buffer changes."
+-- It is said of the definitions that the calls' contracts cite; a call's answer is its number, and 0 means carried out.
+--
+--   Judged rows n             == n is 0 exactly where no test of the rows holds; otherwise it is the number of the first that does
+--   Leaves n after done was   == where n is 0 a buffer holds `done` after the call, and otherwise what it held before
+--   Demand1                   == every call is judged by its tests, in the sheet's order, and leaves its buffers so
+use mathlib.Core.Path.{_≡_}
+use mathlib.Core.Bool.{true, false}
+use mathlib.Core.Logic.{_↔_}
+use mathlib.Core.List.{List, _++_}
+use Prim.Native.Nat.{ℕ, _<_}
+use lib.ListN.{length, getD, drop}
+use Rattle.refusal.specs.Chain.{Row, first}
+use Rattle.field.specs.Modulus.{modulus}
+use Rattle.plan.specs.declared.Job.{Job}
+use Rattle.plan.specs.Planning.{planTests, planned}
+use Rattle.plan.specs.Planning.{numberOf as Planning·numberOf}
+use Rattle.weights.specs.declared.Matrix.{Matrix}
+use Rattle.share.specs.Sharing.{hostShare, shareTests, shareAfter}
+use Rattle.product.specs.Product.{productOf, productTests, productAfter}
+use Rattle.header.specs.declared.Header.{Header}
+use Rattle.header.specs.Header.{headerOf, elementCount}
+use Rattle.message.specs.Format.{messageOf, elements, writeTests, readTests, written, readAs, readInto, numberOf}
+use Rattle.heard.specs.Heard.{withPlace}
+use Rattle.arrival.specs.Arriving.{answerLength, withBlock, place, arrivalTests, arrived, storeAfter, heardAfter}
+use Rattle.arrival.specs.Arriving.{numberOf as Arriving·numberOf}
+use Rattle.decode.specs.Decoding.{tableOf, decodeTests, tableAfter}
+
+-- the row at i; there is none past the end
+abbrev pub row : List Row → ℕ → Row
+row rows i = getD rows i (false, 0)
+
+pub record Judged (rows : List Row) (n : ℕ) : Type 0 where
+  pub carried-out : (n ≡ 0) ↔ ((i : ℕ) → i < length rows → row rows i .0 ≡ false)
+  pub refused : (n ≡ 0 → ⊥)
+      → (i : ℕ) × (i < length rows) × (row rows i .0 ≡ true) × (row rows i .1 ≡ n) × ((j : ℕ) → j < i → row rows j .0 ≡ false)
+
+pub record Leaves (n : ℕ) (after done was : List ℕ) : Type 0 where
+  pub carried-out : n ≡ 0 → after ≡ done
+  pub refused : (n ≡ 0 → ⊥) → after ≡ was
+
+pub record Demand1 : Type 0 where
+  pub plan : (job : Job) (points : List ℕ) → Judged (planTests job points) (Planning·numberOf (planned job points))
+  pub share : (m : Matrix) (job : Job) (points : List ℕ) (host : ℕ) (xs ms out : List ℕ)
+      → Judged (shareTests m job points host xs ms (length out)) (first (shareTests m job points host xs ms (length out)))
+      × Leaves (first (shareTests m job points host xs ms (length out))) (shareAfter m job points host xs ms out) (hostShare m job points host xs ms) out
+  pub product : (n rows inner columns : ℕ) (a b out : List ℕ)
+      → Judged (productTests n rows inner columns a b (length out)) (first (productTests n rows inner columns a b (length out)))
+      × Leaves (first (productTests n rows inner columns a b (length out))) (productAfter n rows inner columns a b out) (productOf (modulus n) rows inner columns a b) out
+  pub write : (h : Header) (xs out : List ℕ)
+      → Judged (writeTests h xs (length out)) (first (writeTests h xs (length out)))
+      × Leaves (first (writeTests h xs (length out))) (written h xs out) (messageOf h xs) out
+  -- past rows times columns the output is untouched
+  pub read : (message out : List ℕ)
+      → Judged (readTests message (length out)) (numberOf (readAs message (length out)))
+      × Leaves (numberOf (readAs message (length out))) (readInto message out) (elements message ++ drop (elementCount (headerOf message)) out) out
+  -- an arrival writes its own block and sets its own bit
+  pub arrival : (job : Job) (points : List ℕ) (heard : ℕ) (store message : List ℕ)
+      → Judged (arrivalTests job points heard (length store) message) (Arriving·numberOf (arrived job points heard store message))
+      × Leaves (Arriving·numberOf (arrived job points heard store message)) (storeAfter job points heard store message) (withBlock (answerLength job) store (place message) (elements message)) store
+      × (Arriving·numberOf (arrived job points heard store message) ≡ 0 → heardAfter heard (arrived job points heard store message) ≡ withPlace heard (place message))
+      × ((Arriving·numberOf (arrived job points heard store message) ≡ 0 → ⊥) → heardAfter heard (arrived job points heard store message) ≡ heard)
+  pub decode : (job : Job) (points : List ℕ) (heard : ℕ) (store table : List ℕ)
+      → Judged (decodeTests job points heard store (length table)) (first (decodeTests job points heard store (length table)))
+      × Leaves (first (decodeTests job points heard store (length table))) (tableAfter job points heard store table) (tableOf job points heard store) table

@@ -1,0 +1,2 @@
+-- The sides of a job and their weights.
+pub mod Weights
