@@ -16,11 +16,10 @@ use Rattle.algebra.proofs.Lists.{getD-map}
 use Rattle.algebra.proofs.Sets.{members-has, members-below, members-distinct}
 use Rattle.algebra.proofs.Places.{pointsAt, points-each, points-apart}
 use Rattle.layout.specs.Exponents.{Exponents, exponents, term}
-use Rattle.layout.specs.Sound.{Sound}
-use Rattle.layout.proofs.Soundness.{sound}
 use Rattle.plan.specs.declared.Job.{Job}
 use Rattle.plan.specs.Planning.{prime, parameters, layoutOf, planOf}
 use Rattle.plan.proofs.Facts.{Fits, Facts, facts}
+use Rattle.plan.proofs.Sizes.{job-sound}
 use Rattle.weights.specs.declared.Matrix.{Matrix}
 use Rattle.weights.specs.declared.Matrix.the-variants.{A, B}
 use Rattle.weights.specs.Weights.{side}
@@ -53,15 +52,9 @@ same-numbers x y same =
 layoutData : Job → Exponents
 layoutData job = exponents (layoutOf job) (parameters job)
 
--- both layouts are sound for the job's cuts
-job-sound : (job : Job) → Fits job → Sound (parameters job) (layoutData job)
-unfolding layoutData parameters
-job-sound job fits =
-    sound (layoutOf job) (parameters job) (record { m = fits .ranged .m .low; p = fits .ranged .p .low; n = fits .ranged .n .low })
-
 masks-follow : (m : Matrix) (job : Job) → Fits job
     → (base : ℕ) × ((y : ℕ) → term (layoutData job) (side m (planOf job) .masks) 0 y ≡ base + y)
-unfolding side term
+unfolding side term layoutData
 masks-follow A job fits = let s = job-sound job fits in (s .firstA, s .masksA)
 masks-follow B job fits = let s = job-sound job fits in (s .firstB, s .masksB)
 
