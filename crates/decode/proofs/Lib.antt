@@ -3,3 +3,4 @@ pub mod Chosen
 pub mod Stored
 pub mod Pieces
 pub mod Tables
+pub mod Answers
