@@ -4,18 +4,19 @@
 --   refused         by a number that is not 0: the table stays
 --   done            by 0: the table is decoded
 --   Passed, passed  what decoding's own tests tell, once they have passed
---   enough-heard    then K hosts are chosen
+--   chosen-are, lowest-are   then K hosts are chosen: the lowest-numbered of all
 --   roomy, ready    their weights have room, and what the table is made of is there
 --   table-exact     the table, piece by piece, is the decoded one
+--   inside .. room-is   the same of the plan, the shape, the places, points and weights that the code has made
 use mathlib.Core.Path.{_≡_, refl, sym, ap, ap₂, _∙_, subst}
 use mathlib.Core.Bool.{Bool, true, not, _||_}
-use mathlib.Core.List.{List, map}
+use mathlib.Core.List.{List, _++_, map, append-nil}
 use Prim.Native.Nat.{ℕ, _+_, _*_, _/_, _%_, _^_, _<_, _≤_}
 use native.Mathlib.Nat.{mul-le-mul}
 use native.Mathlib.Omega.{arith}
 use lib.Dec.{eqb, ltb}
 use lib.Count.{ones}
-use lib.ListN.{length, getD, length-map}
+use lib.ListN.{length, getD, drop, length-map, drop-of-length-le}
 use borrow.Author.Tests.{ltb-false, leb-false, not-false}
 use Rattle.algebra.specs.Lists.{grid, AllBelow}
 use Rattle.algebra.specs.Polynomials.{coefficient}
@@ -120,10 +121,16 @@ module _ (job : Job) (points : List ℕ) (heard : ℕ) (store : List ℕ) (room 
   pub chosen-are : Chosen job points heard
   chosen-are = chosen-hosts job points f heard (omega (arith, p .enough, ones-size heard (job .hosts) (p .none-above)))
 
-  -- the K lowest-numbered of all places are those of the job's hosts
-  pub lowest-are : lowest (neededOf job) heard 64 ≡ chosen job heard
+  -- the K lowest-numbered of all places are those of the job's hosts, and fill an output of K
+  pub lowest-are : (out : List ℕ) → length out ≡ neededOf job
+      → lowest (length out) heard 64 ++ drop (length (lowest (length out) heard 64)) out ≡ chosen job heard
   unfolding chosen
-  lowest-are = lowest-within heard (neededOf job) (job .hosts) (p .none-above) (f .fits .hosts-high)
+  lowest-are out size =
+      let same : lowest (length out) heard 64 ≡ chosen job heard
+      = ap (λ (k : ℕ). lowest k heard 64) size ∙ lowest-within heard (neededOf job) (job .hosts) (p .none-above) (f .fits .hosts-high) in
+      ap (λ (l : List ℕ). l ++ drop (length l) out) same
+      ∙ ap (λ (l : List ℕ). chosen job heard ++ l) (drop-of-length-le out {i = length (chosen job heard)} (omega (arith, chosen-are .count)))
+      ∙ append-nil (chosen job heard)
 
   abbrev s : Shape
   s = shape (planOf job)
@@ -192,3 +199,25 @@ module _ (job : Job) (points : List ℕ) (heard : ℕ) (store : List ℕ) (room 
       grid-cong _ (λ w v. tableEntry job points heard store (w / s .across / s .rows) (w % s .across) (w / s .across % s .rows) v) (pieceCount s) (s .columns)
       (λ w v hw hv. entry-is w v hw)
       ∙ blocks-pieces (tableEntry job points heard store) (job .m) (blockRows job) (job .n) (blockColumns job)
+
+  -- the same of what the code has made: the plan, the shape, the places, their points and the weights
+  module _ (plan : Plan) (is : plan ≡ planOf job) (places : List ℕ) (places-are : places ≡ chosen job heard) where
+    pub inside : AllBelow (length points) places
+    inside = rw places-are (λ i l. omega (arith, chosen-are .within i l, f .points-length))
+
+    pub roomy-for : (xs : List ℕ) → length xs ≡ length places → Roomy plan (length xs) (blockCount (shape plan))
+    roomy-for xs size = rw (size, places-are, chosen-are .count, is) roomy
+
+    module _ (ws : List ℕ) (ws-are : ws ≡ weightsOf (Modulus·prime (plan .modulus)) (exponents (plan .layout) (plan .parameters)) (shape plan) (pointsAt points places))
+        (made : Shape) (made-is : made ≡ shape plan) where
+      pub ready-for : Ready (Modulus·prime (plan .modulus)) made places ws store
+      unfolding planOf
+      ready-for = rw (made-is, ws-are, places-are, is) ready
+
+      pub decoded-is : grid (λ w v. pieceSum made places ws store w v % Modulus·prime (plan .modulus)) (pieceCount made) (made .columns) ≡ tableOf job points heard store
+      unfolding planOf
+      decoded-is = rw (made-is, ws-are, places-are, is) table-exact
+
+      pub room-is : room ≡ pieceCount made * made .columns
+      unfolding planOf pieceCount shape parameters tableLength
+      room-is = rw (made-is, is) (let size = sizes job (f .fits) in p .table ∙ ap₂ _*_ (size .t) (size .r) ∙ omega arith)

@@ -7,7 +7,8 @@ ghost use Rattle.algebra.specs.Lists.{tab, grid, AllBelow};
 ghost use Rattle.refusal.specs.Chain.{first};
 ghost use Rattle.field.specs.Modulus.{prime};
 ghost use Rattle.layout.specs.Exponents.{exponents};
-ghost use Rattle.decode.specs.Decoding.{heardBelow};
+ghost use Rattle.plan.specs.Planning.{planOf};
+ghost use Rattle.decode.specs.Decoding.{heardBelow, decodeTests, tableOf, tableAfter};
 ghost use Rattle.decode.specs.Weights.{
   ownTests,
   Limited,
@@ -26,6 +27,7 @@ use field::Modulus;
 use layout::Series;
 use plan::Job;
 use plan::Plan;
+use plan::Planned;
 use refusal::either;
 
 // The table: down by across blocks, each rows by columns.
@@ -36,10 +38,12 @@ struct Shape {
     columns: usize,
 }
 
-// The most hosts, the most coefficients of the product over their points, and the most columns of a block.
+// The most hosts, the most coefficients of the product over their points, the most weights, and the most columns of a block.
 const MOST_HOSTS: usize = 64;
 
 const MOST_ROOTS: usize = 65;
+
+const MOST_WEIGHTS: usize = 4096;
 
 const MOST_COLUMNS: usize = 4096;
 
@@ -241,5 +245,58 @@ fn table_pieces(
             &mut table[start..end],
         );
         piece += 1;
+    }
+}
+
+// The table of a call that no test refuses.
+fn decode_planned(
+    job: Job,
+    plan: Plan,
+    points: &[u32],
+    heard: u64,
+    store: &[u32],
+    table: &mut [u32],
+)
+    requires { ⌜ plan ≡ planOf job × first (decodeTests job (now points) heard (now store) (length (now table))) ≡ 0 ⌝ }
+    ensures { λ _. ⌜ now (table .exit) ≡ tableOf job (now (points .entry)) heard (now (store .entry)) ⌝ }
+{
+    let modulus = plan.modulus;
+    let s = Shape {
+        down: job.m as usize,
+        across: job.n as usize,
+        rows: plan.rows as usize,
+        columns: plan.columns as usize,
+    };
+    let needed = plan.needed as usize;
+    let count = needed * (s.down * s.across);
+    let mut place_room = [0u32; MOST_HOSTS];
+    let mut point_room = [0u32; MOST_HOSTS];
+    let mut weight_room = [0u32; MOST_WEIGHTS];
+    let places = &mut place_room[..needed];
+    let chosen = &mut point_room[..needed];
+    let weights = &mut weight_room[..count];
+    heard::lowest_heard(heard, places);
+    points_at(points, places, chosen);
+    decoding_weights(plan, chosen, weights);
+    table_pieces(modulus, s, places, weights, store, table);
+}
+
+// Decodes the table from the answers of the K lowest-numbered hosts heard: the table then holds it, or the call is refused by
+// number and the table stays as it was.
+pub fn decode(job: Job, points: &[u32], heard: u64, store: &[u32], table: &mut [u32]) -> u32
+    ensures number { λ r. ⌜ r ≡ first (decodeTests job (now (points .entry)) heard (now (store .entry)) (length (now (table .entry)))) ⌝ }
+    ensures table { λ _. ⌜ now (table .exit) ≡ tableAfter job (now (points .entry)) heard (now (store .entry)) (now (table .entry)) ⌝ }
+{
+    let planned = plan::plan_job(job, points);
+    match planned {
+        Planned::Refused(number) => number,
+        Planned::Accepted(plan) => {
+            let own = own_refusal(job, plan, heard, store, table.len());
+            if own != 0 {
+                return own;
+            }
+            decode_planned(job, plan, points, heard, store, table);
+            0
+        }
     }
 }
