@@ -9,7 +9,7 @@
 --   table-exact     the table, piece by piece, is the decoded one
 --   inside .. room-is   the same of the plan, the shape, the places, points and weights that the code has made
 use mathlib.Core.Path.{_≡_, refl, sym, ap, ap₂, _∙_, subst}
-use mathlib.Core.Bool.{Bool, true, not, _||_}
+use mathlib.Core.Bool.{true, not, _||_}
 use mathlib.Core.List.{List, _++_, map, append-nil}
 use Prim.Native.Nat.{ℕ, _+_, _*_, _/_, _%_, _^_, _<_, _≤_}
 use native.Mathlib.Nat.{mul-le-mul}
@@ -31,11 +31,11 @@ use Rattle.field.specs.Modulus.{prime as Modulus·prime}
 use Rattle.layout.specs.Exponents.{Exponents, exponents}
 use Rattle.plan.specs.declared.Job.{Job}
 use Rattle.plan.specs.declared.Plan.{Plan}
-use Rattle.plan.specs.Planning.{prime, parameters, layoutOf, neededOf, blockRows, blockColumns, planOf, planTests}
+use Rattle.plan.specs.Planning.{prime, parameters, layoutOf, neededOf, blockRows, blockColumns, planOf}
 use Rattle.plan.proofs.Facts.{Facts, Fits}
 use Rattle.plan.proofs.Sizes.{sizes, place-below}
 use Rattle.plan.proofs.Then.{own-prime}
-use Rattle.heard.specs.Heard.{isHeard, someAbove, lowest}
+use Rattle.heard.specs.Heard.{someAbove, lowest}
 use Rattle.heard.proofs.Bits.{ones-size, lowest-within}
 use Rattle.arrival.specs.Arriving.{answerLength, storeLength, blockAt}
 use Rattle.decode.specs.declared.Shape.{Shape}

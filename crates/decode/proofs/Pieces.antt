@@ -4,26 +4,23 @@
 --   placed           so is each piece
 --   few-pieces       how many rows and pieces a table has at most
 --   sumsTo           each sum with the terms of the first c hosts, in 64 bits
---   sums-none, sums-more   no host, and one more
+--   length-sums, sums-none, sums-more   as many as before, no host, and one more
 --   rest-is          a list from some place on, up to its end
---   piece-there      the weights and the answers of a piece are there
+--   block-there, row-there, piece-there   the weights and the answers of a piece are there
 --   piece-exact      cleared sums with all the terms: reduced, they are the piece
---   blocks-pieces    a table that is made block by block, as pieces
-use mathlib.Core.Path.{_≡_, refl, sym, ap, ap₂, _∙_}
+use mathlib.Core.Path.{_≡_, sym, ap, _∙_}
 use mathlib.Core.List.{List}
 use Prim.Native.Nat.{ℕ, _+_, _-_, _*_, _/_, _%_, _^_, _<_, _≤_}
 use native.Mathlib.Nat.{mul-le-mul, mul-le-mul-right, mod-lt, div-lt-iff-lt-mul, le-of-lt}
 use native.Mathlib.Numerals.{add-one}
 use native.Mathlib.Omega.{arith}
-use lib.Arith.{digits-div, digits-mod}
 use lib.ListN.{length, getD, take, drop, length-drop}
 use lib.Seq.{getD-take, getD-drop, take-all, ext-getD}
-use Rattle.algebra.specs.Lists.{tab, stack, grid, entry, AllBelow}
+use Rattle.algebra.specs.Lists.{tab, entry}
 use Rattle.algebra.specs.Sums.{sum}
 use Rattle.algebra.proofs.Orders.{row-end}
 use Rattle.algebra.proofs.Lists.{length-tab, getD-tab, below-anywhere, below-drop}
-use Rattle.algebra.proofs.Grids.{tab-cong, grid-cong}
-use Rattle.algebra.proofs.Stacks.{stack-cong, stack-grid}
+use Rattle.algebra.proofs.Grids.{tab-cong}
 use Rattle.algebra.proofs.Sums.{sum-bound}
 use Rattle.field.specs.declared.Modulus.{Modulus}
 use Rattle.field.specs.Modulus.{prime}
@@ -32,7 +29,6 @@ use Rattle.rows.specs.Combination.{zeros, plus, reduced}
 use Rattle.rows.proofs.Exact.{reduced-tab}
 use Rattle.arrival.specs.Arriving.{blockAt}
 use Rattle.decode.specs.declared.Shape.{Shape}
-use Rattle.decode.specs.Decoding.{blocks}
 use Rattle.decode.specs.Weights.{Small, blockCount, blockLength, pieceCount, pieceBlock, pieceRow, answerTerms, There, pieceSum, Ready}
 
 -- ---- where it lies

@@ -7,7 +7,7 @@
 use mathlib.Core.Path.{_≡_, sym, ap, ap₂, _∙_}
 use mathlib.Core.List.{List, map}
 use Prim.Native.Nat.{ℕ, _+_, _*_, _/_, _%_, _<_}
-use native.Mathlib.Nat.{mod-lt, mul-comm, div-lt-iff-lt-mul}
+use native.Mathlib.Nat.{mod-lt, mul-comm}
 use native.Mathlib.Omega.{arith}
 use lib.Arith.{digits-div, digits-mod}
 use lib.ListN.{length, getD, drop, length-map}
@@ -22,7 +22,6 @@ use Rattle.algebra.proofs.Stacks.{stack-cong, stack-grid}
 use Rattle.algebra.proofs.Modular.{≈-trans, ≈-of-eq, ≈-mod, ≈-mul}
 use Rattle.algebra.proofs.Sums.{sum-≈}
 use Rattle.algebra.proofs.Places.{pointsAt}
-use Rattle.interpolation.specs.Basis.{coefficients, product, quotient, basisScale}
 use Rattle.interpolation.proofs.Weights.{basis-by-division}
 use Rattle.layout.specs.Exponents.{Exponents}
 use Rattle.decode.specs.declared.Shape.{Shape}

@@ -1,11 +1,10 @@
 -- `decode::decode_planned` meets its contract.
-use mathlib.Core.Path.{_≡_, refl, sym, ap, ap₂, _∙_}
-use mathlib.Core.List.{List, _++_, map, append-nil}
+use mathlib.Core.Path.{_≡_, sym, ap, ap₂, _∙_}
 use Prim.Native.Nat.{ℕ, _*_, _≤_}
 use native.Mathlib.Nat.{mul-le-mul}
 use native.Mathlib.Omega.{arith}
 use borrow.Author.Needs.{needs}
-use lib.ListN.{length, getD, take, drop, replicate, length-map, drop-of-length-le}
+use lib.ListN.{length, getD, take, replicate, length-map}
 use lib.Seq.{length-take-le}
 use Rattle.algebra.proofs.Places.{pointsAt}
 use Rattle.refusal.specs.Chain.{first}
@@ -16,7 +15,6 @@ use Rattle.plan.specs.declared.Plan.{Plan}
 use Rattle.plan.specs.Planning.{parameters, neededOf, planOf, planTests}
 use Rattle.plan.proofs.Facts.{Facts, facts}
 use Rattle.plan.proofs.Then.{plan-numbered}
-use Rattle.heard.specs.Heard.{lowest}
 use Rattle.decode.specs.declared.Shape.{Shape}
 use Rattle.decode.specs.Decoding.{chosen, decodeTests}
 use Rattle.decode.specs.Weights.{ownTests, shape, blockCount, weightsOf}

@@ -1,7 +1,7 @@
 -- `decode::decoding_weights` meets its contract.
 use mathlib.Core.Path.{_≡_, refl, sym, ap, _∙_}
 use mathlib.Core.List.{List, _++_}
-use Prim.Native.Nat.{ℕ, _+_, _-_, _*_, _<_, _≤_}
+use Prim.Native.Nat.{ℕ, _+_, _-_, _*_, _≤_}
 use native.Mathlib.Nat.{add-sub-cancel-left}
 use native.Mathlib.Omega.{arith}
 use borrow.Author.Needs.{needs}
@@ -15,7 +15,7 @@ use Rattle.field.specs.Modulus.{prime}
 use Rattle.layout.specs.Exponents.{exponents}
 use Rattle.plan.specs.declared.Plan.{Plan}
 use Rattle.interpolation.specs.Basis.{coefficients, product}
-use Rattle.decode.specs.Weights.{shape, blockCount, Roomy, hostWeight, weightsOf}
+use Rattle.decode.specs.Weights.{shape, blockCount, hostWeight, weightsOf}
 use Rattle.decode.proofs.decoding_weights.Statement.{statement}
 use Rattle.decode.proofs.decoding_weights.Tie as tie
 

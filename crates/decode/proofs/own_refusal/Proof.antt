@@ -12,7 +12,7 @@ use lib.ListN.{length}
 use Rattle.algebra.proofs.Tests.{or-left, equal}
 use Rattle.refusal.proofs.Chains.{first-none, first-hit, first-miss}
 use Rattle.plan.specs.declared.Plan.{Plan}
-use Rattle.plan.specs.Planning.{prime, neededOf, blockRows, blockColumns, planOf}
+use Rattle.plan.specs.Planning.{prime, neededOf, planOf}
 use Rattle.heard.specs.Heard.{someAbove}
 use Rattle.arrival.specs.Arriving.{answerLength, storeLength}
 use Rattle.decode.specs.Decoding.{tableLength, heardBelow}
