@@ -13,3 +13,4 @@ pub mod Polynomials
 pub mod Division
 pub mod Interpolation
 pub mod Sets
+pub mod Places

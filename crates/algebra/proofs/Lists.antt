@@ -2,6 +2,7 @@
 --
 --   length-tab, getD-tab      a tabulated list has its length and its elements
 --   take-tab                  the first elements of a tabulated list
+--   getD-map                  an element of a mapped list
 --   fill-none, fill-more, fill-all  a list that is filled from the front becomes a tabulated one
 --   all-below-test            what the test `allBelow` tells
 --   below-test                a list of small numbers passes it
@@ -13,7 +14,7 @@
 use mathlib.Core.Path.{_≡_, refl, sym, ap, ap₂, _∙_}
 use mathlib.Core.Bool.{Bool, true, false, _&&_}
 use mathlib.Core.Logic.{⊎-elim}
-use mathlib.Core.List.{List, [], _∷_, _++_}
+use mathlib.Core.List.{List, [], _∷_, _++_, map}
 use Prim.Native.Nat.{ℕ, zero, suc, _+_, _<_, _≤_, suc-le-suc}
 use native.Mathlib.Nat.{not-suc-le-zero, le-of-suc-le-suc, eq-or-lt-of-le}
 use native.Mathlib.Numerals.{add-one}
@@ -58,6 +59,11 @@ module _ {ℓ} {A : Type ℓ} (f : ℕ → A) where
 
   pub fill-all : (xs : List A) (n : ℕ) → length xs ≡ n → take n xs ≡ tab f n → xs ≡ tab f n
   fill-all xs n h e = sym (take-all n xs (omega arith)) ∙ e
+
+pub getD-map : (f : ℕ → ℕ) (xs : List ℕ) (i : ℕ) → i < length xs → getD (map f xs) i 0 ≡ f (getD xs i 0)
+getD-map f [] i h = absurd (not-suc-le-zero h)
+getD-map f (x ∷ xs) zero h = refl
+getD-map f (x ∷ xs) (suc i) h = getD-map f xs i (le-of-suc-le-suc h)
 
 all-below : (q : ℕ) (xs : List ℕ) → T (allBelow q xs) → AllBelow q xs
 unfolding allBelow

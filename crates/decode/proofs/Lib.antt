@@ -1,1 +1,6 @@
 -- Laws of decoding.
+pub mod Chosen
+pub mod Stored
+pub mod Pieces
+pub mod Tables
+pub mod Answers

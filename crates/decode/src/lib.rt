@@ -1,1 +1,302 @@
 // Decoding: the table is interpolated from the answers of the K lowest-numbered hosts heard.
+ghost use mathlib.Core.Path.{_≡_};
+ghost use mathlib.Core.List.{map};
+ghost use Prim.Native.Nat.{_+_, _*_, _%_, _^_, _<_, _≤_};
+ghost use lib.ListN.{length, getD};
+ghost use Rattle.algebra.specs.Lists.{tab, grid, AllBelow};
+ghost use Rattle.refusal.specs.Chain.{first};
+ghost use Rattle.field.specs.Modulus.{prime};
+ghost use Rattle.layout.specs.Exponents.{exponents};
+ghost use Rattle.plan.specs.Planning.{planOf};
+ghost use Rattle.decode.specs.Decoding.{heardBelow, decodeTests, tableOf, tableAfter};
+ghost use Rattle.decode.specs.Weights.{
+  ownTests,
+  Limited,
+  shape,
+  blockCount,
+  Roomy,
+  hostWeight,
+  weightsOf,
+  pieceCount,
+  answerTerms,
+  There,
+  pieceSum,
+  Ready,
+};
+use field::Modulus;
+use layout::Series;
+use plan::Job;
+use plan::Plan;
+use plan::Planned;
+use refusal::either;
+
+// The table: down by across blocks, each rows by columns.
+struct Shape {
+    down: usize,
+    across: usize,
+    rows: usize,
+    columns: usize,
+}
+
+// The most hosts, the most coefficients of the product over their points, the most weights, and the most columns of a block.
+const MOST_HOSTS: usize = 64;
+
+const MOST_ROOTS: usize = 65;
+
+const MOST_WEIGHTS: usize = 4096;
+
+const MOST_COLUMNS: usize = 4096;
+
+// The blocks of the hosts heard have elements below the prime; other blocks are not looked at.
+fn heard_below(modulus: Modulus, size: usize, heard: u64, store: &[u32], hosts: u32) -> bool
+    requires { ⌜ size ≤ 4096 × hosts ≤ 64 × length (now store) ≡ hosts * size ⌝ }
+    ensures { λ r. ⌜ r ≡ heardBelow (prime modulus) size heard (now (store .entry)) hosts ⌝ }
+{
+    let mut over = false;
+    let mut place = 0;
+    while place < hosts {
+        if heard::is_heard(heard, place) {
+            let start = place as usize * size;
+            let end = start + size;
+            over = either(over, !elements::all_below(modulus, &store[start..end]));
+        }
+        place += 1;
+    }
+    !over
+}
+
+// Tests 21, 13, 24 and 14: the hosts heard, the lengths, how many are heard, and the elements of their blocks.
+fn own_refusal(job: Job, plan: Plan, heard: u64, store: &[u32], room: usize) -> u32
+    requires { ⌜ Limited job plan ⌝ }
+    ensures { λ r. ⌜ r ≡ first (ownTests job heard (now (store .entry)) room) ⌝ }
+{
+    let modulus = plan.modulus;
+    let size = plan.rows as usize * plan.columns as usize;
+    if heard::some_above(job.hosts, heard) {
+        return refusal::HEARD_ABOVE;
+    }
+    if either(
+        store.len() != job.hosts as usize * size,
+        room != job.t as usize * job.r as usize,
+    ) {
+        return refusal::LENGTH;
+    }
+    if u64::count_ones(heard) < plan.needed {
+        return refusal::TOO_FEW;
+    }
+    if !heard_below(modulus, size, heard, store, job.hosts) {
+        return refusal::ELEMENT;
+    }
+    0
+}
+
+// The points of the hosts at some places.
+fn points_at(points: &[u32], places: &[u32], out: &mut [u32])
+    requires { ⌜ AllBelow (length (now points)) (now places) × length (now out) ≡ length (now places) ⌝ }
+    ensures { λ _. ⌜ now (out .exit) ≡ map (λ h. getD (now (points .entry)) h 0) (now (places .entry)) ⌝ }
+{
+    let mut c = 0;
+    while c < places.len() {
+        let place = places[c] as usize;
+        out[c] = points[place];
+        c += 1;
+    }
+}
+
+// The weights of the chosen host whose point is x: its basis polynomial has them at the places of the table's blocks. The roots
+// are the product over all the chosen points.
+fn host_weights(plan: Plan, x: u32, points: &[u32], roots: &[u32], out: &mut [u32])
+    requires { ⌜ Roomy plan (length (now points)) (length (now out)) ⌝ }
+    ensures { λ _. ⌜ now (out .exit)
+        ≡ tab (λ b. hostWeight (prime (plan .modulus)) (exponents (plan .layout) (plan .parameters)) (plan .parameters .n) x (now (points .entry)) (now (roots .entry)) b) (length (now (out .entry))) ⌝ }
+{
+    let modulus = plan.modulus;
+    let layout = plan.layout;
+    let g = plan.parameters;
+    let across = g.n as usize;
+    let count = points.len();
+    let mut quotient = [0u32; MOST_HOSTS];
+    interpolation::divide_root(modulus, roots, x, &mut quotient[..count]);
+    let scale = interpolation::basis_scale(modulus, x, points);
+    let mut b = 0;
+    while b < out.len() {
+        let row = (b / across) as u8;
+        let column = (b % across) as u8;
+        let e = layout::exponent_of(Series::Places, layout, g, row, column) as usize;
+        out[b] = field::multiply(modulus, scale, quotient[e]);
+        b += 1;
+    }
+}
+
+// The weights of the chosen hosts, host by host.
+fn decoding_weights(plan: Plan, points: &[u32], weights: &mut [u32])
+    requires { ⌜ Roomy plan (length (now points)) (blockCount (shape plan)) × length (now weights) ≡ length (now points) * blockCount (shape plan) ⌝ }
+    ensures { λ _. ⌜ now (weights .exit)
+        ≡ weightsOf (prime (plan .modulus)) (exponents (plan .layout) (plan .parameters)) (shape plan) (now (points .entry)) ⌝ }
+{
+    let modulus = plan.modulus;
+    let g = plan.parameters;
+    let size = g.m as usize * g.n as usize;
+    let count = points.len() + 1;
+    let mut roots = [0u32; MOST_ROOTS];
+    interpolation::from_roots(modulus, points, &mut roots[..count]);
+    let mut c = 0;
+    while c < points.len() {
+        let start = c * size;
+        let end = start + size;
+        host_weights(
+            plan,
+            points[c],
+            points,
+            &roots[..count],
+            &mut weights[start..end],
+        );
+        c += 1;
+    }
+}
+
+// Adds to the sums the rows of the answers at some places, each times its weight. The weights lie a step apart, the answers a
+// size.
+fn add_answers(
+    sums: &mut [u64],
+    weights: &[u32],
+    step: usize,
+    places: &[u32],
+    source: &[u32],
+    size: usize,
+)
+    requires { ⌜ There (now weights) step (now places) (now source) size ⌝ }
+    ensures { λ _. ⌜ now (sums .exit)
+        ≡ tab (λ v. (getD (now (sums .entry)) v 0 + answerTerms (now (weights .entry)) step (now (places .entry)) (now (source .entry)) size v) % 2 ^ 64) (length (now (sums .entry))) ⌝ }
+{
+    let mut c = 0;
+    while c < places.len() {
+        let at = c * step;
+        let start = places[c] as usize * size;
+        rows::add_row(sums, weights[at], &source[start..]);
+        c += 1;
+    }
+}
+
+// A piece of the table, from the weights of its block and the answers' rows that are its own. There is a sum for each element.
+fn table_piece(
+    modulus: Modulus,
+    s: Shape,
+    piece: usize,
+    places: &[u32],
+    weights: &[u32],
+    store: &[u32],
+    sums: &mut [u64],
+    out: &mut [u32],
+)
+    requires { ⌜ Ready (prime modulus) s (now places) (now weights) (now store)
+        × piece < pieceCount s
+        × length (now sums) ≡ s .columns
+        × length (now out) ≡ s .columns ⌝ }
+    ensures { λ _. ⌜ now (out .exit)
+        ≡ tab (λ v. pieceSum s (now (places .entry)) (now (weights .entry)) (now (store .entry)) piece v % prime modulus) (s .columns) ⌝ }
+{
+    let across = s.across;
+    let rows = s.rows;
+    let columns = s.columns;
+    let row = piece / across;
+    let block = row / rows * across + piece % across;
+    let from = row % rows * columns;
+    rows::clear(sums);
+    add_answers(
+        sums,
+        &weights[block..],
+        s.down * across,
+        places,
+        &store[from..],
+        rows * columns,
+    );
+    rows::reduce_row(modulus, sums, out);
+}
+
+// The table, piece by piece.
+fn table_pieces(
+    modulus: Modulus,
+    s: Shape,
+    places: &[u32],
+    weights: &[u32],
+    store: &[u32],
+    table: &mut [u32],
+)
+    requires { ⌜ Ready (prime modulus) s (now places) (now weights) (now store) × length (now table) ≡ pieceCount s * s .columns ⌝ }
+    ensures { λ _. ⌜ now (table .exit)
+        ≡ grid (λ w v. pieceSum s (now (places .entry)) (now (weights .entry)) (now (store .entry)) w v % prime modulus) (pieceCount s) (s .columns) ⌝ }
+{
+    let columns = s.columns;
+    let count = s.down * s.rows * s.across;
+    let mut sums = [0u64; MOST_COLUMNS];
+    let mut piece = 0;
+    while piece < count {
+        let start = piece * columns;
+        let end = start + columns;
+        table_piece(
+            modulus,
+            s,
+            piece,
+            places,
+            weights,
+            store,
+            &mut sums[..columns],
+            &mut table[start..end],
+        );
+        piece += 1;
+    }
+}
+
+// The table of a call that no test refuses.
+fn decode_planned(
+    job: Job,
+    plan: Plan,
+    points: &[u32],
+    heard: u64,
+    store: &[u32],
+    table: &mut [u32],
+)
+    requires { ⌜ plan ≡ planOf job × first (decodeTests job (now points) heard (now store) (length (now table))) ≡ 0 ⌝ }
+    ensures { λ _. ⌜ now (table .exit) ≡ tableOf job (now (points .entry)) heard (now (store .entry)) ⌝ }
+{
+    let modulus = plan.modulus;
+    let s = Shape {
+        down: job.m as usize,
+        across: job.n as usize,
+        rows: plan.rows as usize,
+        columns: plan.columns as usize,
+    };
+    let needed = plan.needed as usize;
+    let count = needed * (s.down * s.across);
+    let mut place_room = [0u32; MOST_HOSTS];
+    let mut point_room = [0u32; MOST_HOSTS];
+    let mut weight_room = [0u32; MOST_WEIGHTS];
+    let places = &mut place_room[..needed];
+    let chosen = &mut point_room[..needed];
+    let weights = &mut weight_room[..count];
+    heard::lowest_heard(heard, places);
+    points_at(points, places, chosen);
+    decoding_weights(plan, chosen, weights);
+    table_pieces(modulus, s, places, weights, store, table);
+}
+
+// Decodes the table from the answers of the K lowest-numbered hosts heard: the table then holds it, or the call is refused by
+// number and the table stays as it was.
+pub fn decode(job: Job, points: &[u32], heard: u64, store: &[u32], table: &mut [u32]) -> u32
+    ensures number { λ r. ⌜ r ≡ first (decodeTests job (now (points .entry)) heard (now (store .entry)) (length (now (table .entry)))) ⌝ }
+    ensures table { λ _. ⌜ now (table .exit) ≡ tableAfter job (now (points .entry)) heard (now (store .entry)) (now (table .entry)) ⌝ }
+{
+    let planned = plan::plan_job(job, points);
+    match planned {
+        Planned::Refused(number) => number,
+        Planned::Accepted(plan) => {
+            let own = own_refusal(job, plan, heard, store, table.len());
+            if own != 0 {
+                return own;
+            }
+            decode_planned(job, plan, points, heard, store, table);
+            0
+        }
+    }
+}

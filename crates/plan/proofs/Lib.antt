@@ -4,3 +4,4 @@ pub mod Points
 pub mod Answers
 pub mod Facts
 pub mod Then
+pub mod Sizes

@@ -6,8 +6,7 @@
 use mathlib.Core.Path.{_≡_, sym, ap, ap₂, _∙_}
 use mathlib.Core.Bool.{true}
 use mathlib.Core.List.{List, map}
-use Prim.Native.Nat.{ℕ, suc, _+_, _-_, _*_, _/_, _%_, _<_, _≤_}
-use native.Mathlib.Nat.{div-add-mod}
+use Prim.Native.Nat.{ℕ, suc, _+_, _-_, _*_, _%_, _<_, _≤_}
 use native.Mathlib.Omega.{arith}
 use lib.ListN.{length, getD, drop, length-map}
 use lib.Seq.{getD-take, getD-drop}
@@ -16,25 +15,25 @@ use Rattle.algebra.specs.Sets.{size}
 use Rattle.algebra.specs.Modular.{⟨_⟩_≈_}
 use Rattle.algebra.specs.Polynomials.{ev, coefficient}
 use Rattle.algebra.proofs.Orders.{row-end}
-use Rattle.algebra.proofs.Lists.{length-tab, getD-tab}
+use Rattle.algebra.proofs.Lists.{length-tab, getD-tab, getD-map}
 use Rattle.algebra.proofs.Grids.{grid-cong}
 use Rattle.algebra.proofs.Stacks.{stack-cong, stack-tab, grid-tab, stack-grid}
 use Rattle.algebra.proofs.Modular.{≈-trans, ≈-of-eq}
 use Rattle.algebra.proofs.Interpolation.{recover}
 use Rattle.layout.specs.Exponents.{Exponents, exponents}
-use Rattle.layout.specs.Sound.{Cut, Sound}
-use Rattle.layout.proofs.Soundness.{sound}
+use Rattle.layout.specs.Sound.{Sound}
 use Rattle.plan.specs.declared.Job.{Job}
 use Rattle.plan.specs.Planning.{prime, parameters, layoutOf, neededOf, blockRows, blockInner, blockColumns, planOf}
 use Rattle.plan.proofs.Facts.{Facts, facts}
+use Rattle.plan.proofs.Sizes.{sizes, job-sound, place-below}
 use Rattle.weights.specs.declared.Matrix.the-variants.{A, B}
 use Rattle.share.specs.Sharing.{point, hostShare}
 use Rattle.product.specs.Product.{productEntry, productOf}
 use Rattle.heard.specs.Heard.{isHeard}
 use Rattle.arrival.specs.Arriving.{answerLength, blockAt}
 use Rattle.decode.specs.Decoding.{answerEntry, chosen, tableEntry, blocks, tableOf}
+use Rattle.decode.proofs.Chosen.{Chosen, chosen-hosts}
 use Rattle.promise.specs.Demand3.{Task, Accepted}
-use Rattle.promise.proofs.ExactHosts.{getD-map, Chosen, chosen-hosts}
 use Rattle.promise.proofs.ExactAnswers.{answerOf, coefficients, answer-is, place-is}
 
 -- ---- blocks as one matrix
@@ -66,10 +65,6 @@ block-entry job store h i v hi hv =
     let place : (h * blockRows job + i) * blockColumns job + v ≡ h * size + e = omega arith in
     ap (λ (k : ℕ). getD store k 0) place ∙ sym (getD-take size (drop (h * size) store) e 0 inside ∙ getD-drop (h * size) store e 0)
 
--- a size is its parts together
-parts : (a b : ℕ) → a % b ≡ 0 → b * (a / b) ≡ a
-parts a b h = omega (arith, div-add-mod a b)
-
 unfoldable pub answerBlock : Task → ℕ → List ℕ → List ℕ → List ℕ
 answerBlock x h ma mb =
     let job = x .numbers in
@@ -84,29 +79,19 @@ module _ (x : Task) (f : Facts (x .numbers) (x .points)) where
   abbrev e : Exponents
   e = exponents (layoutOf job) (parameters job)
 
-  cut : Cut (parameters job)
-  unfolding parameters
-  cut = let r = f .fits .ranged in record { m = r .m .low; p = r .p .low; n = r .n .low }
-
   layout : Sound (parameters job) e
-  layout = sound (layoutOf job) (parameters job) cut
-
-  -- a place is below K
-  place-low : (k j : ℕ) → k < job .m → j < job .n → e .place k j < e .needed
-  unfolding parameters
-  place-low k j hk hj =
-      let p : 0 < job .p = f .fits .ranged .p .low in
-      omega (arith, layout .meet k 0 j hk p hj, layout .below k 0 0 j hk p p hj)
+  layout = job-sound job (f .fits)
 
   -- the product with its sizes as the cuts give them
   cuts : List ℕ
   cuts = productOf (prime job) (job .m * blockRows job) (job .p * blockInner job) (job .n * blockColumns job) (x .a) (x .b)
 
   cuts-whole : cuts ≡ productOf (prime job) (job .t) (job .s) (job .r) (x .a) (x .b)
-  unfolding cuts blockRows blockInner blockColumns
+  unfolding cuts
   cuts-whole =
-      ap (λ (n : ℕ). productOf (prime job) n (job .p * blockInner job) (job .n * blockColumns job) (x .a) (x .b)) (parts (job .t) (job .m) (f .fits .divides-t))
-      ∙ ap₂ (λ (n o : ℕ). productOf (prime job) (job .t) n o (x .a) (x .b)) (parts (job .s) (job .p) (f .fits .divides-s)) (parts (job .r) (job .n) (f .fits .divides-r))
+      let size = sizes job (f .fits) in
+      ap (λ (n : ℕ). productOf (prime job) n (job .p * blockInner job) (job .n * blockColumns job) (x .a) (x .b)) (sym (size .t))
+      ∙ ap₂ (λ (n o : ℕ). productOf (prime job) (job .t) n o (x .a) (x .b)) (sym (size .s)) (sym (size .r))
 
   module _ (ma mb : List ℕ) (heard : ℕ) (store : List ℕ) (c : Chosen job (x .points) heard)
       (answers : (h : ℕ) → h < job .hosts → isHeard heard h ≡ true → blockAt (answerLength job) store h ≡ answerBlock x h ma mb) where
@@ -141,14 +126,14 @@ module _ (x : Task) (f : Facts (x .numbers) (x .points)) where
         d
 
     table : tableOf job (x .points) heard store ≡ cuts
-    unfolding tableOf tableEntry cuts productOf cs planOf parameters
+    unfolding tableOf tableEntry cuts productOf cs planOf parameters neededOf
     table =
         blocks-grid (tableEntry job (x .points) heard store)
         (λ u w. productEntry (job .p * blockInner job) (job .n * blockColumns job) (x .a) (x .b) u w % prime job)
         (job .m) (blockRows job) (job .n) (blockColumns job)
         (λ k j i v hk hj hi hv.
         recovered i v (e .place k j) hi hv
-        ∙ ap (λ (n : ℕ). n % prime job) (getD-tab (cs i v) (e .needed) (e .place k j) 0 (place-low k j hk hj))
+        ∙ ap (λ (n : ℕ). n % prime job) (getD-tab (cs i v) (e .needed) (e .place k j) 0 (place-below job (f .fits) k j hk hj))
         ∙ place-is e (planOf job) (x .a) ma (x .b) mb i v layout k j hk hj .same)
 
 pub exact : (x : Task) → Accepted x → (ma mb : List ℕ) (heard : ℕ) (store : List ℕ)

@@ -12,20 +12,20 @@ use native.Mathlib.Omega.{arith}
 use lib.ListN.{length, getD, length-map}
 use Rattle.algebra.specs.Lists.{AllBelow}
 use Rattle.algebra.specs.Sets.{members, size}
+use Rattle.algebra.proofs.Lists.{getD-map}
 use Rattle.algebra.proofs.Sets.{members-has, members-below, members-distinct}
+use Rattle.algebra.proofs.Places.{pointsAt, points-each, points-apart}
 use Rattle.layout.specs.Exponents.{Exponents, exponents, term}
-use Rattle.layout.specs.Sound.{Sound}
-use Rattle.layout.proofs.Soundness.{sound}
 use Rattle.plan.specs.declared.Job.{Job}
 use Rattle.plan.specs.Planning.{prime, parameters, layoutOf, planOf}
 use Rattle.plan.proofs.Facts.{Fits, Facts, facts}
+use Rattle.plan.proofs.Sizes.{job-sound}
 use Rattle.weights.specs.declared.Matrix.{Matrix}
 use Rattle.weights.specs.declared.Matrix.the-variants.{A, B}
 use Rattle.weights.specs.Weights.{side}
 use Rattle.share.specs.Sharing.{shareOf, point, hostShare}
 use Rattle.message.specs.Format.{messageOf}
 use Rattle.promise.specs.Demand3.{Task, Accepted, SamePublic, Masks, Hidden, publicNumbers, largest, matrix, headerFor, shareHeader, shareMessage}
-use Rattle.promise.proofs.Places.{pointsAt, getD-points, points-each, points-apart}
 use Rattle.promise.proofs.Solvable.{Solvable, solvable-powers}
 use Rattle.promise.proofs.Matching.{MasksFor, Matched, matched}
 
@@ -52,15 +52,9 @@ same-numbers x y same =
 layoutData : Job → Exponents
 layoutData job = exponents (layoutOf job) (parameters job)
 
--- both layouts are sound for the job's cuts
-job-sound : (job : Job) → Fits job → Sound (parameters job) (layoutData job)
-unfolding layoutData parameters
-job-sound job fits =
-    sound (layoutOf job) (parameters job) (record { m = fits .ranged .m .low; p = fits .ranged .p .low; n = fits .ranged .n .low })
-
 masks-follow : (m : Matrix) (job : Job) → Fits job
     → (base : ℕ) × ((y : ℕ) → term (layoutData job) (side m (planOf job) .masks) 0 y ≡ base + y)
-unfolding side term
+unfolding side term layoutData
 masks-follow A job fits = let s = job-sound job fits in (s .firstA, s .masksA)
 masks-follow B job fits = let s = job-sound job fits in (s .firstB, s .masksB)
 
@@ -86,7 +80,7 @@ module _ (points : List ℕ) (g : ℕ → Bool) (n : ℕ) where
   group-has i h t =
       let at = members-has g n i h t in
       let own : getD (members g n) (at .0) 0 ≡ suc i - 1 = omega (arith, at .2) in
-      (at .0, omega (arith, at .1, length-group), getD-points points (members g n) (at .0) (at .1) ∙ ap (λ (k : ℕ). getD points k 0) own)
+      (at .0, omega (arith, at .1, length-group), getD-map (λ h. getD points h 0) (members g n) (at .0) (at .1) ∙ ap (λ (k : ℕ). getD points k 0) own)
 
 -- what mask y of a matrix is multiplied by at point k of a group
 maskWeight : Matrix → Job → List ℕ → ℕ → ℕ → ℕ

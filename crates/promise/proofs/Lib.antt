@@ -1,14 +1,12 @@
 -- Proofs of the promises.
 pub mod Starred
 pub mod Demand1
-pub mod Places
 pub mod Solvable
 pub mod Matching
 pub mod Hidden
 pub mod ExactSums
 pub mod ExactPlaces
 pub mod ExactAnswers
-pub mod ExactHosts
 pub mod Exact
 pub mod Fits
 pub mod Blocks

@@ -1,7 +1,6 @@
 -- Shares, products and messages of an accepted job are made: no call that makes them is refused.
 --
---   Sizes, sizes       the sizes of an accepted job's blocks
---   side-sizes         those of a side
+--   side-rows, side-columns, side-block  the sizes of a side's blocks
 --   fields-pass        a header with numbers in range
 --   share-length, share-below    a share fills its block, with elements below q
 --   product-length, product-below  so does an answer
@@ -11,15 +10,13 @@
 --   made               the messages of demand 3 are what these calls give
 use mathlib.Core.Path.{_≡_, ap, ap₂, _∙_}
 use mathlib.Core.Bool.{false, not, _||_}
-use mathlib.Core.Logic.{⊎-elim}
 use mathlib.Core.List.{List}
-use Prim.Native.Nat.{ℕ, suc, _+_, _*_, _/_, _%_, _<_, _≤_}
-use native.Mathlib.Nat.{mul-le-mul-left, mul-le-mul-right, div-add-mod, mod-lt}
+use Prim.Native.Nat.{ℕ, suc, _+_, _*_, _<_, _≤_}
+use native.Mathlib.Nat.{mod-lt}
 use native.Mathlib.Omega.{arith}
 use lib.ListN.{length}
 use borrow.Author.Tests.{le-ltb}
 use Rattle.algebra.specs.Lists.{AllBelow}
-use Rattle.algebra.proofs.Orders.{le-or-lt}
 use Rattle.algebra.proofs.Tests.{alike}
 use Rattle.algebra.proofs.Lists.{below-test}
 use Rattle.algebra.proofs.Grids.{length-grid, below-grid}
@@ -28,9 +25,9 @@ use Rattle.field.specs.Modulus.{noModulus}
 use Rattle.refusal.specs.Limits.{anyOutside, sizesOutside, overBlock}
 use Rattle.refusal.proofs.Chains.{first-none, first-miss, answer-done}
 use Rattle.refusal.proofs.Limits.{Within}
-use Rattle.plan.specs.declared.Job.{Job}
 use Rattle.plan.specs.Planning.{prime, parameters, blockRows, blockInner, blockColumns, planOf}
 use Rattle.plan.proofs.Facts.{Fits, facts}
+use Rattle.plan.proofs.Sizes.{Sizes, sizes}
 use Rattle.plan.proofs.Then.{then-own}
 use Rattle.weights.specs.declared.Matrix.{Matrix}
 use Rattle.weights.specs.declared.Matrix.the-variants.{A, B}
@@ -46,43 +43,9 @@ use Rattle.message.proofs.Fields.{writes}
 use Rattle.message.proofs.Answers.{written-done}
 use Rattle.promise.specs.Demand3.{Task, Accepted, Masks, Made, matrix, kindOf, headerFor, shareHeader, answerHeader, shareMessage, trueProduct}
 
--- a number that its divisor divides: the quotient is not 0, and the two make it
-whole : (a b : ℕ) → 1 ≤ a → a % b ≡ 0 → (1 ≤ a / b) × (a ≡ b * (a / b))
-whole a b h e = (
-  ⊎-elim (λ (l : 1 ≤ a / b). l)
-      (λ (z : a / b < 1).
-      let none : a / b ≡ 0 = omega arith in
-      let no : ⊥ = omega (arith, div-add-mod a b, ap (λ (k : ℕ). b * k) none) in
-      absurd no)
-      (le-or-lt 1 (a / b)),
-  omega (arith, div-add-mod a b),
-)
-
-pub record Sizes (job : Job) : Type 0 where
-  pub t : job .t ≡ job .m * blockRows job
-  pub s : job .s ≡ job .p * blockInner job
-  pub r : job .r ≡ job .n * blockColumns job
-  pub rows : Within 16384 (blockRows job)
-  pub inner : Within 16384 (blockInner job)
-  pub columns : Within 16384 (blockColumns job)
-
-pub sizes : (job : Job) → Fits job → Sizes job
-unfolding blockRows blockInner blockColumns
-sizes job f =
-    let t = whole (job .t) (job .m) (f .ranged .t .low) (f .divides-t) in
-    let s = whole (job .s) (job .p) (f .ranged .s .low) (f .divides-s) in
-    let r = whole (job .r) (job .n) (f .ranged .r .low) (f .divides-r) in
-    let rows : blockRows job * 1 ≤ blockRows job * blockInner job = mul-le-mul-left (blockRows job) (s .0) in
-    let inner : 1 * blockInner job ≤ blockRows job * blockInner job = mul-le-mul-right (blockInner job) (t .0) in
-    let columns : 1 * blockColumns job ≤ blockRows job * blockColumns job = mul-le-mul-right (blockColumns job) (t .0) in
-    record {
-      t = t .1;
-      s = s .1;
-      r = r .1;
-      rows = record { low = t .0; high = omega (arith, f .block-a) };
-      inner = record { low = s .0; high = omega (arith, f .block-a) };
-      columns = record { low = r .0; high = omega (arith, f .block-c) };
-    }
+-- a size of a block is one of a matrix
+in-size : {n : ℕ} → Within 4096 n → Within 16384 n
+in-size w = record { low = w .low; high = omega (arith, w .high) }
 
 -- a number in its range
 in-range : {most n : ℕ} → Within most n → outside 1 most n ≡ false
@@ -165,13 +128,13 @@ module _ (x : Task) (ok : Accepted x) (i : ℕ) (low : i < x .numbers .hosts) wh
   -- a block of a side is not empty, and not over 4096
   side-rows : (m : Matrix) → Within 16384 (side m (planOf (x .numbers)) .rows)
   unfolding side planOf
-  side-rows A = size .rows
-  side-rows B = size .inner
+  side-rows A = in-size (size .rows)
+  side-rows B = in-size (size .inner)
 
   side-columns : (m : Matrix) → Within 16384 (side m (planOf (x .numbers)) .columns)
   unfolding side planOf
-  side-columns A = size .inner
-  side-columns B = size .columns
+  side-columns A = in-size (size .inner)
+  side-columns B = in-size (size .columns)
 
   side-block : (m : Matrix) → blockLength (side m (planOf (x .numbers))) ≤ 4096
   unfolding side planOf blockLength
@@ -212,7 +175,7 @@ module _ (x : Task) (ok : Accepted x) (i : ℕ) (low : i < x .numbers .hosts) wh
     product-done out room =
         let z = size in
         first-miss _ 1 _ (fits .known .is-number)
-        ∙ first-miss _ 2 _ (ap₂ _||_ (ap₂ _||_ (in-range (z .rows)) (in-range (z .inner))) (in-range (z .columns)))
+        ∙ first-miss _ 2 _ (ap₂ _||_ (ap₂ _||_ (in-range (in-size (z .rows))) (in-range (in-size (z .inner)))) (in-range (in-size (z .columns))))
         ∙ first-miss _ 6 _ (ap₂ _||_ (ap₂ _||_ (le-ltb 4096 _ (fits .block-a)) (le-ltb 4096 _ (fits .block-b))) (le-ltb 4096 _ (fits .block-c)))
         ∙ first-miss _ 13 _ (ap₂ _||_ (ap₂ _||_ (alike _ _ (share-length A ma)) (alike _ _ (share-length B mb))) (alike (length out) _ room))
         ∙ first-miss _ 14 _ (ap₂ _||_ (ap not (below-test _ _ (share-below A ma))) (ap not (below-test _ _ (share-below B mb))))
@@ -228,7 +191,7 @@ module _ (x : Task) (ok : Accepted x) (i : ℕ) (low : i < x .numbers .hosts) wh
     unfolding answerHeader headerFor elementCount elementTest prime
     answer-written room e =
         writes (answerHeader x (suc i)) _ room (record {
-          fields = fields-pass (answerHeader x (suc i)) (record { low = omega arith; high = omega arith }) (fits .known .is-number) host (size .rows) (size .columns) (fits .block-c);
+          fields = fields-pass (answerHeader x (suc i)) (record { low = omega arith; high = omega arith }) (fits .known .is-number) host (in-size (size .rows)) (in-size (size .columns)) (fits .block-c);
           count = answer-length;
           room = e;
           below = ap not (below-test _ _ answer-below);

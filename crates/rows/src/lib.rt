@@ -22,7 +22,7 @@ pub fn clear(sums: &mut [u64])
 }
 
 // Adds weight times a row to the sums; the row may be longer than they are, or shorter.
-fn add_row(sums: &mut [u64], weight: u32, row: &[u32])
+pub fn add_row(sums: &mut [u64], weight: u32, row: &[u32])
     ensures { λ _. ⌜ now (sums .exit) ≡ plus (now (sums .entry)) weight (now (row .entry)) ⌝ }
 {
     let n = least(sums.len(), row.len());

@@ -6,23 +6,20 @@
 --   Passed, passed  what sharing's own tests tell, once they have passed
 use mathlib.Core.Path.{_≡_, sym, ap, _∙_}
 use mathlib.Core.Bool.{not}
-use mathlib.Core.Logic.{⊎-elim}
 use mathlib.Core.List.{List}
-use Prim.Native.Nat.{ℕ, _*_, _/_, _%_, _<_, _≤_}
-use native.Mathlib.Nat.{mul-le-mul-left, mul-le-mul-right, div-add-mod}
-use native.Mathlib.Omega.{arith}
+use Prim.Native.Nat.{ℕ, _≤_}
 use lib.Dec.{eqb}
 use lib.ListN.{length}
 use borrow.Author.Tests.{not-false}
 use Rattle.algebra.specs.Lists.{AllBelow, allBelow}
-use Rattle.algebra.proofs.Orders.{le-or-lt}
 use Rattle.algebra.proofs.Tests.{or-all, equal}
 use Rattle.algebra.proofs.Lists.{all-below-test}
 use Rattle.refusal.specs.Chain.{first, answer, outside}
 use Rattle.refusal.proofs.Chains.{first-clear, answer-done, answer-refused, inside-low, inside-high}
 use Rattle.plan.specs.declared.Job.{Job}
-use Rattle.plan.specs.Planning.{parameters, blockRows, blockInner, blockColumns, planOf}
+use Rattle.plan.specs.Planning.{parameters, planOf}
 use Rattle.plan.proofs.Facts.{Fits}
+use Rattle.plan.proofs.Sizes.{sizes}
 use Rattle.weights.specs.declared.Matrix.{Matrix}
 use Rattle.weights.specs.declared.Matrix.the-variants.{A, B}
 use Rattle.weights.specs.declared.Side.{Side}
@@ -30,33 +27,16 @@ use Rattle.weights.specs.Weights.{side}
 use Rattle.share.specs.Sharing.{hostShare, blockLength, matrixLength, maskLength, lengthTest, ownTests, shareTests, shareAfter}
 use Rattle.weights.specs.Weights.{Small}
 
--- the quotient of a positive number by a divisor of it is positive
-whole : (a b : ℕ) → 1 ≤ a → a % b ≡ 0 → 1 ≤ a / b
-whole a b h e =
-    ⊎-elim (λ (l : 1 ≤ a / b). l)
-    (λ (z : a / b < 1).
-    let none : a / b ≡ 0 = omega arith in
-    let no : ⊥ = omega (arith, div-add-mod a b, ap (λ (k : ℕ). b * k) none) in
-    absurd no)
-    (le-or-lt 1 (a / b))
-
--- the limits, from the sizes of a block that is not empty
-small-of : (s : Side) → s .down ≤ 8 → s .across ≤ 8 → 1 ≤ s .count → s .count ≤ 16 → 1 ≤ s .rows → 1 ≤ s .columns → s .rows * s .columns ≤ 4096 → Small s
-small-of s hd ha hm hc hr hk hb =
-    let tall : s .rows * 1 ≤ s .rows * s .columns = mul-le-mul-left (s .rows) hk in
-    let wide : 1 * s .columns ≤ s .rows * s .columns = mul-le-mul-right (s .columns) hr in
-    record { down = hd; across = ha; count = hc; masked = hm; rows = omega arith; columns = omega arith; block = hb }
-
 pub side-small : (m : Matrix) (job : Job) → Fits job → Small (side m (planOf job))
-unfolding side planOf parameters blockRows blockInner blockColumns
+unfolding side planOf parameters
 side-small A job f =
     let r = f .ranged in
-    small-of (side A (planOf job)) (r .m .high) (r .p .high) (r .xa .low) (r .xa .high) (whole (job .t) (job .m) (r .t .low) (f .divides-t))
-    (whole (job .s) (job .p) (r .s .low) (f .divides-s)) (f .block-a)
+    let size = sizes job f in
+    record { down = r .m .high; across = r .p .high; count = r .xa .high; masked = r .xa .low; rows = size .rows .high; columns = size .inner .high; block = f .block-a }
 side-small B job f =
     let r = f .ranged in
-    small-of (side B (planOf job)) (r .p .high) (r .n .high) (r .xb .low) (r .xb .high) (whole (job .s) (job .p) (r .s .low) (f .divides-s))
-    (whole (job .r) (job .n) (r .r .low) (f .divides-r)) (f .block-b)
+    let size = sizes job f in
+    record { down = r .p .high; across = r .n .high; count = r .xb .high; masked = r .xb .low; rows = size .inner .high; columns = size .columns .high; block = f .block-b }
 
 pub record Passed (q hosts : ℕ) (s : Side) (host : ℕ) (xs ms : List ℕ) (room : ℕ) : Type 0 where
   pub low : 1 ≤ host

@@ -1,0 +1,160 @@
+-- `decode::table_pieces` meets its contract.
+use mathlib.Core.Path.{_≡_, refl, sym, ap, _∙_}
+use mathlib.Core.List.{List, _++_}
+use Prim.Native.Nat.{ℕ, _+_, _-_, _*_, _%_, _≤_}
+use native.Mathlib.Nat.{add-sub-cancel-left}
+use native.Mathlib.Omega.{arith}
+use lib.ListN.{length, take, drop, length-drop}
+use lib.Seq.{length-take-le, length-front}
+use Rattle.algebra.specs.Lists.{grid}
+use Rattle.algebra.proofs.Orders.{row-end}
+use Rattle.algebra.proofs.Grids.{rows-none, rows-more, rows-all}
+use Rattle.field.specs.declared.Modulus.{Modulus}
+use Rattle.field.specs.Modulus.{prime}
+use Rattle.decode.specs.declared.Shape.{Shape}
+use Rattle.decode.specs.Weights.{pieceCount, pieceSum}
+use Rattle.decode.proofs.Pieces.{few-pieces}
+use Rattle.decode.proofs.table_pieces.Statement.{statement}
+use Rattle.decode.proofs.table_pieces.Tie as tie
+
+-- an element of the table, by its piece
+abbrev element : Modulus → Shape → List ℕ → List ℕ → List ℕ → ℕ → ℕ → ℕ
+element modulus s places weights store w v = pieceSum s places weights store w v % prime modulus
+
+abbrev Inv-loop : tie.InvT-loop
+Inv-loop modulus s places weights store table₀ columns count sums₀ piece₀ table sums piece =
+    record {
+      short : piece ≤ count;
+      wide : length sums ≡ 4096;
+      same : length table ≡ length table₀;
+      is : table ≡ grid (element modulus s places weights store) piece columns ++ drop (piece * columns) table₀;
+    }
+
+abbrev μ-loop : tie.MeasureT-loop
+μ-loop modulus s places weights store table₀ columns count sums₀ piece₀ table sums piece = count - piece
+
+mul-count : tie.Need-mul-count Inv-loop μ-loop
+mul-count c = let e = c .before .before .before .before .before in omega (arith, few-pieces (e .args .s) (e .pre .0 .small))
+
+mul-count-2 : tie.Need-mul-count-2 Inv-loop μ-loop
+unfolding pieceCount
+mul-count-2 c = let e = c .before .before .before .before .before .before in omega (arith, few-pieces (e .args .s) (e .pre .0 .small))
+
+loop-holds : tie.Need-loop-holds Inv-loop μ-loop
+loop-holds c =
+    let a = c .before .before .before .before .before .before .args in
+    record { short = omega arith; wide = refl; same = refl; is = rows-none _ (a .table .now) (a .s .columns) }
+
+-- the next piece lies in the table
+inside : (c : tie.In-loop Inv-loop μ-loop)
+    → c .before .loop .piece * c .before .before .before .before .before .before .before .before .args .s .columns + c .before .before .before .before .before .before .before .before .args .s .columns ≤ length (c .before .loop .table)
+unfolding pieceCount
+inside c =
+    let e = c .before .before .before .before .before .before .before .before in
+    omega (arith, row-end (e .args .s .columns) (c .loop-test .taken), e .pre .1)
+
+mul-start : tie.Need-mul-start Inv-loop μ-loop
+mul-start c = let i = inside c in omega arith
+
+add-end : tie.Need-add-end Inv-loop μ-loop
+add-end c = let i = inside c in omega arith
+
+array-borrow-prefix-sums : tie.Need-array-borrow-prefix-sums Inv-loop μ-loop
+array-borrow-prefix-sums c = let small = c .before .before .before .before .before .before .before .before .pre .0 .small in omega arith
+
+slice-aggregate-table-piece : tie.Need-slice-aggregate-table-piece Inv-loop μ-loop
+slice-aggregate-table-piece c =
+    let small = c .before .before .before .before .before .before .before .before .before .pre .0 .small in
+    sym (length-take-le _ _ (omega arith))
+
+mul-table-piece : tie.Need-mul-table-piece Inv-loop μ-loop
+mul-table-piece c = let i = inside (c .before) in omega arith
+
+sub-table-piece : tie.Need-sub-table-piece Inv-loop μ-loop
+sub-table-piece c = let i = inside (c .before) in omega arith
+
+part-table-piece-start : tie.Need-part-table-piece-start Inv-loop μ-loop
+part-table-piece-start c = let i = inside (c .before) in omega arith
+
+part-table-piece-end : tie.Need-part-table-piece-end Inv-loop μ-loop
+part-table-piece-end c = let i = inside (c .before) in omega arith
+
+-- the part of the table that is lent is as long as the piece
+piece-length : (c : tie.In-loop Inv-loop μ-loop)
+    → length (take (c .before .before .before .before .before .before .before .before .args .s .columns) (drop (c .before .loop .piece * c .before .before .before .before .before .before .before .before .args .s .columns) (c .before .loop .table)))
+    ≡ c .before .before .before .before .before .before .before .before .args .s .columns
+piece-length c =
+    let l = c .before .loop in
+    let columns = c .before .before .before .before .before .before .before .before .args .s .columns in
+    length-take-le columns (drop (l .piece * columns) (l .table)) (omega (arith, inside c, length-drop (l .piece * columns) (l .table)))
+
+table-piece-requires : tie.Need-table-piece-requires Inv-loop μ-loop
+unfolding pieceCount
+table-piece-requires c κs =
+    let l = c .before .before in
+    let e = l .before .before .before .before .before .before .before .before in
+    let small = e .pre .0 .small in
+    let sums = length-take-le (e .args .s .columns) (l .before .loop .sums) (omega arith) in
+    (e .pre .0, l .loop-test .taken, sums, rw add-sub-cancel-left (piece-length l))
+
+add-piece : tie.Need-add-piece Inv-loop μ-loop
+unfolding pieceCount
+add-piece c =
+    let e = c .before .before .before .before .before .before .before .before .before .before .before .before .before .before in
+    omega (arith, few-pieces (e .args .s) (e .pre .0 .small))
+
+loop-less : tie.Need-loop-less Inv-loop μ-loop
+loop-less c = omega arith
+
+loop-again : tie.Need-loop-again Inv-loop μ-loop
+loop-again c =
+    let l = c .before .before .before .before .before .before in
+    let e = l .before .before .before .before .before .before .before .before in
+    let a = e .args in
+    let call = c .before .before .before .table-piece in
+    record {
+      short = omega arith;
+      wide = length-front (l .before .loop .sums) (call .last .1 .1 .1 .1 .1 .1 .0) (a .s .columns) (c .before .before .sums2 .given) ∙ l .before .loop .inv .wide;
+      same = omega arith;
+      is = rw add-sub-cancel-left
+          (rows-more (element (a .modulus) (a .s) (a .places .now) (a .weights .now) (a .store .now)) (a .table .now) (l .before .loop .table) _ (a .s .columns) (l .before .loop .piece)
+          (l .before .loop .inv .is) (call .ensures));
+    }
+
+same-length : tie.Need-same-length Inv-loop μ-loop
+same-length c = omega arith
+
+returns : tie.Need-returns Inv-loop μ-loop
+unfolding pieceCount
+returns c =
+    let l = c .before in
+    let e = l .before .before .before .before .before .before .before in
+    let a = e .args in
+    let f = element (a .modulus) (a .s) (a .places .now) (a .weights .now) (a .store .now) in
+    let all : l .loop .piece ≡ pieceCount (a .s) = omega arith in
+    rows-all f (a .table .now) (l .loop .table) (pieceCount (a .s)) (a .s .columns) (e .pre .1)
+    (l .loop .inv .is ∙ ap (λ (k : ℕ). grid f k (a .s .columns) ++ drop (k * a .s .columns) (a .table .now)) all)
+
+pub table-pieces-spec : {M : Type 1} → statement M
+table-pieces-spec =
+    tie.close
+    (tie.spec
+    Inv-loop
+    μ-loop
+    mul-count
+    mul-count-2
+    loop-holds
+    mul-start
+    add-end
+    array-borrow-prefix-sums
+    slice-aggregate-table-piece
+    mul-table-piece
+    sub-table-piece
+    part-table-piece-start
+    part-table-piece-end
+    table-piece-requires
+    add-piece
+    loop-less
+    loop-again
+    same-length
+    returns)
