@@ -130,7 +130,9 @@ fn run_product(head: [u32; HEAD_WORDS], a: &[u32], b: &[u32], out: &mut [u32]) -
 fn put_reading(reading: Reading) {
     match reading {
         Reading::Refused(number) => case_io::put_number(number),
-        Reading::Done(h) => case_io::put_words(&[0, h.kind, h.modulus, h.host, h.rows, h.columns, h.number]),
+        Reading::Done(h) => case_io::put_words(
+            &[0, h.kind, h.modulus, h.host, h.rows, h.columns, h.number],
+        ),
     }
 }
 
