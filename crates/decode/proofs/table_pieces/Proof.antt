@@ -1,7 +1,7 @@
 -- `decode::table_pieces` meets its contract.
 use mathlib.Core.Path.{_≡_, refl, sym, ap, _∙_}
 use mathlib.Core.List.{List, _++_}
-use Prim.Native.Nat.{ℕ, _+_, _-_, _*_, _%_, _≤_}
+use Prim.Native.Nat.{ℕ, _+_, _-_, _*_, _%_, _<_, _≤_}
 use native.Mathlib.Nat.{add-sub-cancel-left}
 use native.Mathlib.Omega.{arith}
 use lib.ListN.{length, take, drop, length-drop}
@@ -45,13 +45,18 @@ loop-holds c =
     let a = c .before .before .before .before .before .before .args in
     record { short = omega arith; wide = refl; same = refl; is = rows-none _ (a .table .now) (a .s .columns) }
 
--- the next piece lies in the table
+-- there is a next piece
+more : (c : tie.In-loop Inv-loop μ-loop) → c .before .loop .piece < pieceCount (c .before .before .before .before .before .before .before .before .args .s)
+unfolding pieceCount
+more c = omega arith
+
+-- it lies in the table
 inside : (c : tie.In-loop Inv-loop μ-loop)
     → c .before .loop .piece * c .before .before .before .before .before .before .before .before .args .s .columns + c .before .before .before .before .before .before .before .before .args .s .columns ≤ length (c .before .loop .table)
 unfolding pieceCount
 inside c =
     let e = c .before .before .before .before .before .before .before .before in
-    omega (arith, row-end (e .args .s .columns) (c .loop-test .taken), e .pre .1)
+    omega (arith, row-end (e .args .s .columns) (more c), e .pre .1)
 
 mul-start : tie.Need-mul-start Inv-loop μ-loop
 mul-start c = let i = inside c in omega arith
@@ -95,7 +100,7 @@ table-piece-requires c κs =
     let e = l .before .before .before .before .before .before .before .before in
     let small = e .pre .0 .small in
     let sums = length-take-le (e .args .s .columns) (l .before .loop .sums) (omega arith) in
-    (e .pre .0, l .loop-test .taken, sums, rw add-sub-cancel-left (piece-length l))
+    (e .pre .0, more l, sums, rw add-sub-cancel-left (piece-length l))
 
 add-piece : tie.Need-add-piece Inv-loop μ-loop
 unfolding pieceCount
