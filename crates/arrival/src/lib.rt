@@ -4,7 +4,7 @@ ghost use mathlib.Core.List.{List};
 ghost use Prim.Native.Nat.{ℕ, _+_, _*_, _≤_};
 ghost use lib.ListN.{length};
 ghost use Rattle.refusal.specs.Chain.{first};
-ghost use Rattle.plan.specs.Planning.{blockRows, blockColumns};
+ghost use Rattle.plan.specs.Planning.{blockRows, blockColumns, planTests};
 ghost use Rattle.header.specs.Header.{headerOf, elementCount};
 ghost use Rattle.message.specs.Format.{elements};
 ghost use Rattle.arrival.specs.Arriving.{answerLength, withBlock, foreign, stateTests, ownTests, arrived, storeAfter};
@@ -78,6 +78,40 @@ fn put_block(place: usize, size: usize, message: &[u8], store: &mut [u32])
     elements::read_elements(&message[header::HEADER_BYTES..], &mut store[start..end]);
 }
 
+// Takes a message when the plan, the hosts heard and the store have passed: its block is written and its host counts as heard,
+// or it is refused.
+fn take_message(
+    job: Job,
+    rows: u32,
+    columns: u32,
+    heard: u64,
+    store: &mut [u32],
+    message: &[u8],
+) -> Arrived
+    requires { ⌜ rows ≡ blockRows job × columns ≡ blockColumns job × rows * columns ≤ 4096 × job .hosts ≤ 64
+        × first (stateTests job heard (length (now store))) ≡ 0 ⌝ }
+    ensures { λ r. ⌜ ((points : List ℕ) → first (planTests job points) ≡ 0
+        → (r ≡ arrived job points heard (now (store .entry)) (now (message .entry)))
+        × (now (store .exit) ≡ storeAfter job points heard (now (store .entry)) (now (message .entry)))) ⌝ }
+{
+    let reading = message::examine(message);
+    match reading {
+        Reading::Refused(number) => Arrived::Refused(number),
+        Reading::Done(h) => {
+            let own = own_refusal(job, rows, columns, heard, h);
+            if own != 0 {
+                return Arrived::Refused(own);
+            }
+            let place = h.host - 1;
+            let size = (rows * columns) as usize;
+            put_block(place as usize, size, message, store);
+            let bit = 1u64 << place;
+            let after = heard + bit;
+            Arrived::Taken(after)
+        }
+    }
+}
+
 // Takes an answer's message: its elements are written over its host's block of the store, and its host counts as heard; or it
 // is refused by number, and the store stays as it was.
 pub fn arrive(job: Job, points: &[u32], heard: u64, store: &mut [u32], message: &[u8]) -> Arrived
@@ -93,21 +127,7 @@ pub fn arrive(job: Job, points: &[u32], heard: u64, store: &mut [u32], message: 
             if state != 0 {
                 return Arrived::Refused(state);
             }
-            let reading = message::examine(message);
-            match reading {
-                Reading::Refused(number) => Arrived::Refused(number),
-                Reading::Done(h) => {
-                    let own = own_refusal(job, plan.rows, plan.columns, heard, h);
-                    if own != 0 {
-                        return Arrived::Refused(own);
-                    }
-                    let place = h.host - 1;
-                    put_block(place as usize, size, message, store);
-                    let bit = 1u64 << place;
-                    let after = heard + bit;
-                    Arrived::Taken(after)
-                }
-            }
+            take_message(job, plan.rows, plan.columns, heard, store, message)
         }
     }
 }
