@@ -75,7 +75,7 @@ fn put_block(place: usize, size: usize, message: &[u8], store: &mut [u32])
 {
     let start = place * size;
     let end = start + size;
-    elements::read_elements(&message[header::HEADER_BYTES..], &mut store[start..end]);
+    big_endian::read_elements(&message[header::HEADER_BYTES..], &mut store[start..end]);
 }
 
 // Takes a message when the plan, the hosts heard and the store have passed: its block is written and its host counts as heard,

@@ -38,7 +38,7 @@ pub fn read_words(count: usize, out: &mut [u32]) -> usize
     let mut bytes = zero_bytes();
     let most = least(least(count, out.len()), MOST_READ);
     let n = read_bytes(4 * most, &mut bytes);
-    elements::read_elements(&bytes[..n], out);
+    big_endian::read_elements(&bytes[..n], out);
     least(n / 4, out.len())
 }
 
@@ -46,7 +46,7 @@ pub fn read_words(count: usize, out: &mut [u32]) -> usize
 pub fn put_words(words: &[u32]) {
     let mut bytes = io::large_buffer();
     let size = 4 * least(words.len(), MOST_WRITTEN);
-    elements::write_elements(words, &mut bytes);
+    big_endian::write_elements(words, &mut bytes);
     io::write_all(STDOUT_FILENO, &bytes[..size]);
 }
 

@@ -25,8 +25,9 @@ use Rattle.algebra.proofs.Sums.{sum-bound}
 use Rattle.field.specs.declared.Modulus.{Modulus}
 use Rattle.field.specs.Modulus.{prime}
 use Rattle.field.proofs.Moduli.{prime-prime, sums-fit}
-use Rattle.rows.specs.Combination.{zeros, plus, reduced}
-use Rattle.rows.proofs.Exact.{reduced-tab}
+use Rattle.sums.specs.Sums.{zeros, reduced}
+use Rattle.rows.specs.Combination.{plus}
+use Rattle.sums.proofs.Reduced.{reduced-tab}
 use Rattle.arrival.specs.Arriving.{blockAt}
 use Rattle.decode.specs.declared.Shape.{Shape}
 use Rattle.decode.specs.Weights.{Small, blockCount, blockLength, pieceCount, pieceBlock, pieceRow, answerTerms, There, pieceSum, Ready}

@@ -202,7 +202,7 @@ fn table_piece(
     let row = piece / across;
     let block = row / rows * across + piece % across;
     let from = row % rows * columns;
-    rows::clear(sums);
+    sums::clear(sums);
     add_answers(
         sums,
         &weights[block..],
@@ -211,7 +211,7 @@ fn table_piece(
         &store[from..],
         rows * columns,
     );
-    rows::reduce_row(modulus, sums, out);
+    sums::reduce_row(modulus, sums, out);
 }
 
 // The table, piece by piece.

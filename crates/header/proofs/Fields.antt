@@ -18,7 +18,7 @@ use Rattle.refusal.proofs.Chains.{first-clear, inside-high}
 use Rattle.refusal.proofs.Limits.{within-both}
 use Rattle.field.specs.Modulus.{moduli, modulus, noModulus}
 use Rattle.field.proofs.Moduli.{known-number}
-use Rattle.elements.specs.Bytes.{numberAt}
+use Rattle.big_endian.specs.Bytes.{numberAt}
 use Rattle.header.specs.declared.Header.{Header}
 use Rattle.header.specs.Header.{mark, version, headerOf, elementCount, kindTest, hostTest, sizeTest, blockTest, fieldTests, markTest, versionTest, headerTests}
 use Rattle.header.proofs.Tests.{told-fields}

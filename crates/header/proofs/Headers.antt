@@ -15,9 +15,9 @@ use lib.ListN.{length, take, drop}
 use lib.Seq.{take-add, drop-drop}
 use Rattle.algebra.specs.Lists.{AllBelow}
 use Rattle.algebra.proofs.Lists.{below-append}
-use Rattle.elements.specs.Bytes.{bigEndian, numberAt}
-use Rattle.elements.proofs.Bytes.{bigEndian-bytes, bigEndian-numberAt}
-use Rattle.elements.proofs.Words.{number-of-one, number-of-two, number-of-four}
+use Rattle.big_endian.specs.Bytes.{bigEndian, numberAt}
+use Rattle.big_endian.proofs.Bytes.{bigEndian-bytes, bigEndian-numberAt}
+use Rattle.big_endian.proofs.Words.{number-of-one, number-of-two, number-of-four}
 use Rattle.header.specs.declared.Header.{Header}
 use Rattle.header.specs.Header.{mark, version, header, headerOf}
 use Rattle.header.proofs.Fields.{Ranged}

@@ -15,7 +15,7 @@ use lib.Dec.{eqb, ltb}
 use lib.ListN.{length}
 use Rattle.refusal.specs.Chain.{Row, first, answer, outside}
 use Rattle.field.specs.Modulus.{noModulus}
-use Rattle.elements.specs.Bytes.{bigEndian, numberAt}
+use Rattle.big_endian.specs.Bytes.{bigEndian, numberAt}
 use Rattle.header.specs.declared.Header.{Header}
 use Rattle.header.specs.declared.Reading.{Reading}
 use Rattle.header.specs.declared.Reading.the-variants.{Done, Refused}

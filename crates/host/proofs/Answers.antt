@@ -21,8 +21,8 @@ use Rattle.refusal.proofs.Chains.{first-clear, answer-done, answer-refused}
 use Rattle.refusal.specs.Limits.{sizesOutside, overBlock}
 use Rattle.refusal.proofs.Limits.{within-all, blocks-fit}
 use Rattle.field.specs.Modulus.{modulus}
-use Rattle.elements.specs.Bytes.{bytesOf, elementsOf, common}
-use Rattle.elements.proofs.Words.{length-elements, written-exact}
+use Rattle.big_endian.specs.Bytes.{bytesOf, elementsOf, common}
+use Rattle.big_endian.proofs.Words.{length-elements, written-exact}
 use Rattle.product.specs.Product.{productOf, lengthTest, productTests, productAfter}
 use Rattle.host.specs.Host.{byteLengthTest, hostTests, hostProduct, hostAfter}
 

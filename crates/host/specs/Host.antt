@@ -14,7 +14,7 @@ use Rattle.algebra.specs.Lists.{allBelow}
 use Rattle.refusal.specs.Chain.{Row, first, answer}
 use Rattle.refusal.specs.Limits.{sizesOutside, overBlock}
 use Rattle.field.specs.Modulus.{modulus, noModulus}
-use Rattle.elements.specs.Bytes.{bytesOf, elementsOf}
+use Rattle.big_endian.specs.Bytes.{bytesOf, elementsOf}
 use Rattle.product.specs.Product.{productOf}
 
 unfoldable pub byteLengthTest : ℕ → ℕ → ℕ → ℕ → ℕ → ℕ → Bool

@@ -40,8 +40,8 @@ pub extern "C" fn mukerihe_product(
     let mut left = [0u32; MOST_ELEMENTS];
     let mut right = [0u32; MOST_ELEMENTS];
     let mut block = [0u32; MOST_ELEMENTS];
-    elements::read_elements(a, &mut left);
-    elements::read_elements(b, &mut right);
+    big_endian::read_elements(a, &mut left);
+    big_endian::read_elements(b, &mut right);
     let left_count = element_count(a.len());
     let right_count = element_count(b.len());
     let count = element_count(out.len());
@@ -55,7 +55,7 @@ pub extern "C" fn mukerihe_product(
         &mut block[..count],
     );
     if number == 0 {
-        elements::write_elements(&block[..count], out);
+        big_endian::write_elements(&block[..count], out);
     }
     number
 }

@@ -12,8 +12,8 @@ use lib.ListN.{length, take, drop, length-drop, drop-of-length-le}
 use lib.Seq.{take-all, take-length, take-at}
 use Rattle.text.specs.Decimal.{put}
 use Rattle.text.proofs.Puts.{put-fits, length-put}
-use Rattle.elements.specs.Bytes.{bytesOf, elementsOf, common}
-use Rattle.elements.proofs.Words.{written-exact}
+use Rattle.big_endian.specs.Bytes.{bytesOf, elementsOf, common}
+use Rattle.big_endian.proofs.Words.{written-exact}
 use Rattle.header.specs.declared.Header.{Header}
 use Rattle.header.specs.Header.{header, headerOf, elementCount}
 use Rattle.header.proofs.Headers.{length-header}

@@ -17,9 +17,9 @@ use Rattle.algebra.specs.Lists.{AllBelow}
 use Rattle.algebra.proofs.Lists.{below-append}
 use Rattle.algebra.proofs.Orders.{le-or-lt}
 use Rattle.refusal.specs.Chain.{first}
-use Rattle.elements.specs.Bytes.{bytesOf, elementsOf}
-use Rattle.elements.proofs.Bytes.{length-bytesOf, bytesOf-bytes, elements-of-bytes, bytes-of-elements}
-use Rattle.elements.proofs.Words.{length-elements}
+use Rattle.big_endian.specs.Bytes.{bytesOf, elementsOf}
+use Rattle.big_endian.proofs.Bytes.{length-bytesOf, bytesOf-bytes, elements-of-bytes, bytes-of-elements}
+use Rattle.big_endian.proofs.Words.{length-elements}
 use Rattle.header.specs.declared.Header.{Header}
 use Rattle.header.specs.declared.Reading.the-variants.{Done, Refused}
 use Rattle.header.specs.Header.{header, headerOf, elementCount, fieldTests}

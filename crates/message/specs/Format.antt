@@ -18,7 +18,7 @@ use lib.ListN.{length, drop}
 use Rattle.algebra.specs.Lists.{allBelow}
 use Rattle.refusal.specs.Chain.{Row, first, answer}
 use Rattle.field.specs.Modulus.{modulus}
-use Rattle.elements.specs.Bytes.{bytesOf, elementsOf}
+use Rattle.big_endian.specs.Bytes.{bytesOf, elementsOf}
 use Rattle.header.specs.declared.Header.{Header}
 use Rattle.header.specs.declared.Reading.{Reading}
 use Rattle.header.specs.declared.Reading.the-variants.{Done, Refused}

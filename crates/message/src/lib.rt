@@ -44,7 +44,7 @@ pub fn write_message(h: Header, xs: &[u32], out: &mut [u8]) -> u32
     }
     let head = header::header_bytes(h);
     text::put_bytes(out, 0, &head);
-    elements::write_elements(xs, &mut out[HEADER_BYTES..]);
+    big_endian::write_elements(xs, &mut out[HEADER_BYTES..]);
     0
 }
 
@@ -78,7 +78,7 @@ pub fn read_message(message: &[u8], out: &mut [u32]) -> Reading
     }
     let answer = examine(message);
     if let Reading::Done(_) = answer {
-        elements::read_elements(&message[HEADER_BYTES..], out);
+        big_endian::read_elements(&message[HEADER_BYTES..], out);
     }
     answer
 }

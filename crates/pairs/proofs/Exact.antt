@@ -19,7 +19,8 @@ use Rattle.algebra.proofs.Lists.{length-tab, getD-tab, below-anywhere}
 use Rattle.algebra.proofs.Grids.{tab-cong}
 use Rattle.algebra.proofs.Sums.{sum-cong, sum-bound, sum-add, sum-mul}
 use Rattle.algebra.proofs.Fronts.{front-all}
-use Rattle.rows.specs.Combination.{zeros, combination, added}
+use Rattle.sums.specs.Sums.{zeros}
+use Rattle.rows.specs.Combination.{combination, added}
 use Rattle.rows.proofs.Exact.{added-zeros}
 use Rattle.pairs.specs.Packing.{place, pair, packed, half, halves}
 

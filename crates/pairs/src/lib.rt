@@ -1,7 +1,7 @@
 // Two rows of small numbers as one, so that the sums of their multiples are made at once.
 ghost use mathlib.Core.Path.{_≡_};
 ghost use Rattle.field.specs.Modulus.{prime};
-ghost use Rattle.rows.specs.Combination.{reduced};
+ghost use Rattle.sums.specs.Sums.{reduced};
 ghost use Rattle.pairs.specs.Packing.{pair, packed, half, halves};
 use field::Modulus;
 use words::least;

@@ -19,8 +19,10 @@ use Rattle.algebra.proofs.Grids.{tab-cong, grid-cong}
 use Rattle.algebra.proofs.Sums.{sum-cong}
 use Rattle.field.specs.declared.Modulus.{Modulus}
 use Rattle.field.specs.Modulus.{prime}
-use Rattle.rows.specs.Combination.{zeros, combination, added, reduced}
-use Rattle.rows.proofs.Exact.{combination-fits, added-zeros, reduced-tab}
+use Rattle.sums.specs.Sums.{zeros, reduced}
+use Rattle.rows.specs.Combination.{combination, added}
+use Rattle.sums.proofs.Reduced.{reduced-tab}
+use Rattle.rows.proofs.Exact.{combination-fits, added-zeros}
 use Rattle.pairs.specs.Packing.{packed, halves}
 use Rattle.pairs.proofs.Exact.{dot, halves-exact}
 use Rattle.product.specs.Product.{productEntry, productOf}

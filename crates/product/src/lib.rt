@@ -55,9 +55,9 @@ fn product_row(modulus: Modulus, row: &[u32], b: &[u32], sums: &mut [u64], out: 
     ensures { λ _. ⌜ now (out .exit)
         ≡ productOf (prime modulus) 1 (length (now (row .entry))) (length (now (out .entry))) (now (row .entry)) (now (b .entry)) ⌝ }
 {
-    rows::clear(sums);
+    sums::clear(sums);
     rows::add_rows(sums, row, b, out.len());
-    rows::reduce_row(modulus, sums, out);
+    sums::reduce_row(modulus, sums, out);
 }
 
 // How many rows of the product are made at once: two where they have room when packed.
@@ -99,7 +99,7 @@ fn few_rows(
     let columns = sums.len();
     let mut weights = [0u32; MOST_PACKED];
     pairs::pack(part, &mut weights[..inner]);
-    rows::clear(sums);
+    sums::clear(sums);
     rows::add_rows(sums, &weights[..inner], b, columns);
     pairs::unpack(modulus, false, sums, &mut out[..columns]);
     pairs::unpack(modulus, true, sums, &mut out[columns..]);

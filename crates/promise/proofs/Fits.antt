@@ -24,7 +24,7 @@ use Rattle.plan.specs.Planning.{prime, blockRows, blockColumns, planTests}
 use Rattle.plan.proofs.Facts.{facts}
 use Rattle.plan.proofs.Then.{plan-numbered}
 use Rattle.field.specs.Modulus.{modulus as Modulus·modulus}
-use Rattle.elements.proofs.Words.{length-elements}
+use Rattle.big_endian.proofs.Words.{length-elements}
 use Rattle.message.proofs.Fields.{readable}
 use Rattle.header.specs.Header.{headerTests, headerOf, elementCount, fieldTests}
 use Rattle.message.specs.Format.{elements, elementTest, messageTests}

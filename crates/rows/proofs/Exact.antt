@@ -6,13 +6,12 @@
 --   added-more            sums that are known modulo 2 ^ 64
 --   added-exact           sums that stay below it
 --   added-zeros           the same, from sums that are all 0
---   reduced-tab           as many sums as the output has room for
 use mathlib.Core.Path.{_≡_, refl, ap, _∙_}
-use mathlib.Core.List.{List, _++_}
-use Prim.Native.Nat.{ℕ, _+_, _*_, _%_, _^_, _<_, _≤_, min}
+use mathlib.Core.List.{List}
+use Prim.Native.Nat.{ℕ, _+_, _*_, _%_, _^_, _<_, _≤_}
 use native.Mathlib.Nat.{zero-add, le-of-lt, mul-le-mul, mul-le-mul-right}
 use native.Mathlib.Omega.{arith}
-use lib.ListN.{length, getD, drop}
+use lib.ListN.{length, getD}
 use Rattle.algebra.specs.Lists.{tab, entry, AllBelow}
 use Rattle.algebra.proofs.Lists.{length-tab, getD-tab, below-anywhere}
 use Rattle.algebra.proofs.Grids.{tab-cong}
@@ -20,8 +19,8 @@ use Rattle.algebra.proofs.Sums.{sum-bound}
 use Rattle.field.specs.declared.Modulus.{Modulus}
 use Rattle.field.specs.Modulus.{prime}
 use Rattle.field.proofs.Moduli.{prime-prime, sums-fit}
-use Rattle.rows.specs.Combination.{zeros, combination, added, reduced}
-use Rattle.algebra.proofs.Fronts.{front-all}
+use Rattle.sums.specs.Sums.{zeros}
+use Rattle.rows.specs.Combination.{combination, added}
 
 module _ (weights source : List ℕ) (stride : ℕ) where
   pub combination-bound : (j b : ℕ) → ((i : ℕ) → i < length weights → getD weights i 0 * entry stride source i j ≤ b)
@@ -66,11 +65,3 @@ module _ (weights source : List ℕ) (stride : ℕ) where
   added-zeros sums small =
       added-exact (λ j. 0) (length sums) (zeros sums) refl (λ j l. omega (arith, small j l))
       ∙ tab-cong _ _ (length sums) (λ j l. zero-add (combination weights source stride j))
-
-pub reduced-tab : (q n : ℕ) (f : ℕ → ℕ) (out : List ℕ) → length out ≡ n → reduced q (tab f n) out ≡ tab (λ j. f j % q) n
-unfolding reduced
-reduced-tab q n f out e =
-    let all : min (length (tab f n)) (length out) ≡ n = omega (arith, length-tab f n) in
-    ap (λ (k : ℕ). tab (λ j. getD (tab f n) j 0 % q) k ++ drop k out) all
-    ∙ front-all (λ j. getD (tab f n) j 0 % q) out n (omega arith)
-    ∙ tab-cong _ _ n (λ j l. ap (λ (x : ℕ). x % q) (getD-tab f n j 0 l))

@@ -1,25 +1,12 @@
-// Linear combinations of rows, in sums of 64 bits that are reduced once.
+// Linear combinations of rows, added to sums of 64 bits.
 ghost use mathlib.Core.Path.{_≡_};
 ghost use Prim.Native.Nat.{_≤_};
 ghost use lib.ListN.{length};
-ghost use Rattle.field.specs.Modulus.{prime};
-ghost use Rattle.rows.specs.Combination.{zeros, plus, added, reduced};
-use field::Modulus;
+ghost use Rattle.rows.specs.Combination.{plus, added};
 use refusal::either;
 use std::num::wrapping_add_u64;
 use words::least;
 use words::wide_product;
-
-// Sets every sum to 0.
-pub fn clear(sums: &mut [u64])
-    ensures { λ _. ⌜ now (sums .exit) ≡ zeros (now (sums .entry)) ⌝ }
-{
-    let mut j = 0;
-    while j < sums.len() {
-        sums[j] = 0;
-        j += 1;
-    }
-}
 
 // Adds weight times a row to the sums; the row may be longer than they are, or shorter.
 pub fn add_row(sums: &mut [u64], weight: u32, row: &[u32])
@@ -67,17 +54,5 @@ pub fn add_rows(sums: &mut [u64], weights: &[u32], source: &[u32], stride: usize
             rest = &next[step..];
             i += 2;
         }
-    }
-}
-
-// The sums modulo the prime, as many as have room in the output.
-pub fn reduce_row(modulus: Modulus, sums: &[u64], out: &mut [u32])
-    ensures { λ _. ⌜ now (out .exit) ≡ reduced (prime modulus) (now (sums .entry)) (now (out .entry)) ⌝ }
-{
-    let n = least(sums.len(), out.len());
-    let mut j = 0;
-    while j < n {
-        out[j] = field::reduce(modulus, sums[j]);
-        j += 1;
     }
 }

@@ -11,8 +11,10 @@ use Rattle.algebra.proofs.Lists.{length-tab, getD-tab}
 use Rattle.algebra.proofs.Grids.{tab-cong}
 use Rattle.field.specs.declared.Modulus.{Modulus}
 use Rattle.field.specs.Modulus.{prime}
-use Rattle.rows.specs.Combination.{zeros, added, reduced}
-use Rattle.rows.proofs.Exact.{added-more, reduced-tab}
+use Rattle.sums.specs.Sums.{zeros, reduced}
+use Rattle.rows.specs.Combination.{added}
+use Rattle.sums.proofs.Reduced.{reduced-tab}
+use Rattle.rows.proofs.Exact.{added-more}
 use Rattle.weights.specs.declared.Side.{Side}
 use Rattle.share.specs.Rows.{Ready, blockTerms, maskTerms, rowSums}
 use Rattle.share.proofs.Sums.{row-fits}

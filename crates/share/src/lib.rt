@@ -144,10 +144,10 @@ fn share_row(
     ensures { λ _. ⌜ now (out .exit)
         ≡ tab (λ j. rowSums s (now (weights .entry)) (now (xs .entry)) (now (masks .entry)) i j % prime modulus) (length (now (out .entry))) ⌝ }
 {
-    rows::clear(sums);
+    sums::clear(sums);
     add_blocks(s, i, weights, xs, sums);
     add_masks(s, i, weights, masks, sums);
-    rows::reduce_row(modulus, sums, out);
+    sums::reduce_row(modulus, sums, out);
 }
 
 // The share, row by row.

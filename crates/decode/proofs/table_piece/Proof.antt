@@ -6,7 +6,7 @@ use native.Mathlib.Omega.{arith}
 use borrow.Author.Needs.{needs}
 use lib.ListN.{length, getD, take, drop}
 use Rattle.algebra.specs.Lists.{tab}
-use Rattle.rows.specs.Combination.{zeros}
+use Rattle.sums.specs.Sums.{zeros}
 use Rattle.decode.specs.Weights.{blockCount, blockLength, pieceCount, pieceBlock, pieceRow, answerTerms, pieceSum}
 use Rattle.decode.proofs.Pieces.{Placed, placed, block-there, row-there, piece-there, piece-exact, rest-is}
 use Rattle.decode.proofs.table_piece.Statement.{statement}

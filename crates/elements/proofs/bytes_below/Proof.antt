@@ -7,8 +7,8 @@ use borrow.Author.Needs.{needs}
 use lib.ListN.{length, take}
 use Rattle.algebra.specs.Lists.{allBelow}
 use Rattle.algebra.proofs.Lists.{below-none, below-more, below-all, below-stop}
-use Rattle.elements.specs.Bytes.{elementsOf}
-use Rattle.elements.proofs.Words.{length-elements, element-at, Four, four}
+use Rattle.big_endian.specs.Bytes.{elementsOf}
+use Rattle.big_endian.proofs.Words.{length-elements, element-at, Four, four}
 use Rattle.elements.proofs.bytes_below.Statement.{statement}
 use Rattle.elements.proofs.bytes_below.Tie as tie
 

@@ -1,7 +1,7 @@
 -- `header::header_fields` meets its contract.
 use mathlib.Core.Path.{sym, _∙_}
 use native.Mathlib.Omega.{arith}
-use Rattle.elements.proofs.Words.{number-of-one, number-of-two, number-of-four}
+use Rattle.big_endian.proofs.Words.{number-of-one, number-of-two, number-of-four}
 use Rattle.header.specs.Header.{headerOf}
 use borrow.Author.Needs.{needs}
 use Rattle.header.proofs.header_fields.Statement.{statement}

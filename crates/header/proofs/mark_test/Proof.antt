@@ -4,8 +4,8 @@ use mathlib.Core.Bool.{not}
 use Prim.Native.Nat.{ℕ}
 use native.Mathlib.Omega.{arith}
 use lib.Dec.{eqb}
-use Rattle.elements.specs.Bytes.{numberAt}
-use Rattle.elements.proofs.Words.{number-of-two}
+use Rattle.big_endian.specs.Bytes.{numberAt}
+use Rattle.big_endian.proofs.Words.{number-of-two}
 use Rattle.header.specs.Header.{mark, markTest}
 use borrow.Author.Needs.{needs}
 use Rattle.header.proofs.mark_test.Statement.{statement}

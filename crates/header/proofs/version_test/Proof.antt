@@ -3,9 +3,9 @@ use mathlib.Core.Path.{sym, ap}
 use mathlib.Core.Bool.{not}
 use native.Mathlib.Omega.{arith}
 use borrow.Author.Tests.{eq-eqb, ne-eqb}
-use Rattle.elements.proofs.Words.{number-of-two}
+use Rattle.big_endian.proofs.Words.{number-of-two}
 use borrow.Author.Needs.{needs}
-use Rattle.elements.specs.Bytes.{numberAt}
+use Rattle.big_endian.specs.Bytes.{numberAt}
 use Rattle.header.specs.Header.{version, versionTest}
 use Rattle.header.proofs.version_test.Statement.{statement}
 use Rattle.header.proofs.version_test.Tie as tie

@@ -10,7 +10,7 @@ use Rattle.algebra.proofs.Lists.{length-tab, getD-tab}
 use Rattle.algebra.proofs.Grids.{tab-cong}
 use Rattle.algebra.proofs.Fronts.{front-none, front-more}
 use Rattle.field.specs.Modulus.{prime}
-use Rattle.rows.specs.Combination.{reduced}
+use Rattle.sums.specs.Sums.{reduced}
 use Rattle.pairs.specs.Packing.{half, halves}
 use Rattle.pairs.proofs.unpack.Statement.{statement}
 use Rattle.pairs.proofs.unpack.Tie as tie

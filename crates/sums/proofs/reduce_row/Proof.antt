@@ -1,4 +1,4 @@
--- `rows::reduce_row` meets its contract.
+-- `sums::reduce_row` meets its contract.
 use mathlib.Core.Path.{_≡_, refl, ap, _∙_}
 use mathlib.Core.List.{_++_}
 use Prim.Native.Nat.{ℕ, _-_, _%_, _≤_, min}
@@ -7,10 +7,10 @@ use borrow.Author.Needs.{needs}
 use lib.ListN.{length, getD, drop, set, length-set}
 use Rattle.algebra.specs.Lists.{tab}
 use Rattle.field.specs.Modulus.{prime}
-use Rattle.rows.specs.Combination.{reduced}
+use Rattle.sums.specs.Sums.{reduced}
 use Rattle.algebra.proofs.Fronts.{front-none, front-more}
-use Rattle.rows.proofs.reduce_row.Statement.{statement}
-use Rattle.rows.proofs.reduce_row.Tie as tie
+use Rattle.sums.proofs.reduce_row.Statement.{statement}
+use Rattle.sums.proofs.reduce_row.Tie as tie
 
 abbrev Inv-loop : tie.InvT-loop
 Inv-loop modulus sums out₀ n j₀ out j =

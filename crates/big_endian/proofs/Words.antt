@@ -16,8 +16,8 @@ use mir.Val.{Fits}
 use lib.ListN.{length, getD, take, drop, set, length-set, drop-of-length-le}
 use lib.Seq.{take-suc, take-length, take-at, drop-drop, drop-append-add, length-take-le, sets-eq}
 use Rattle.algebra.proofs.Lists.{length-tab, getD-tab}
-use Rattle.elements.specs.Bytes.{bigEndian, numberAt, bytesOf, elementsOf, common}
-use Rattle.elements.proofs.Bytes.{length-bytesOf, bytesOf-append}
+use Rattle.big_endian.specs.Bytes.{bigEndian, numberAt, bytesOf, elementsOf, common}
+use Rattle.big_endian.proofs.Bytes.{length-bytesOf, bytesOf-append}
 
 module _ (bytes : List ℕ) (at : ℕ) where
   pub number-of-one : numberAt bytes at 1 ≡ getD bytes at 0

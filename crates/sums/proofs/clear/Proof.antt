@@ -1,14 +1,14 @@
--- `rows::clear` meets its contract.
+-- `sums::clear` meets its contract.
 use mathlib.Core.Path.{_≡_, refl, ap, _∙_}
 use mathlib.Core.List.{_++_}
 use Prim.Native.Nat.{_-_, _≤_}
 use native.Mathlib.Omega.{arith}
 use lib.ListN.{length, drop, length-set}
 use Rattle.algebra.specs.Lists.{tab}
-use Rattle.rows.specs.Combination.{zeros}
+use Rattle.sums.specs.Sums.{zeros}
 use Rattle.algebra.proofs.Fronts.{front-none, front-more, front-all}
-use Rattle.rows.proofs.clear.Statement.{statement}
-use Rattle.rows.proofs.clear.Tie as tie
+use Rattle.sums.proofs.clear.Statement.{statement}
+use Rattle.sums.proofs.clear.Tie as tie
 
 abbrev Inv-loop : tie.InvT-loop
 Inv-loop sums₀ j₀ sums j =

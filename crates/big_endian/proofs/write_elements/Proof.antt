@@ -1,4 +1,4 @@
--- `elements::write_elements` meets its contract.
+-- `big_endian::write_elements` meets its contract.
 use mathlib.Core.Path.{_≡_, refl, sym, ap, _∙_, subst}
 use mathlib.Core.List.{_++_}
 use Prim.Native.Nat.{ℕ, _+_, _-_, _*_, _/_, _≤_}
@@ -7,10 +7,10 @@ use native.Mathlib.Omega.{arith}
 use borrow.Author.Needs.{needs}
 use lib.ListN.{length, take, drop, set, length-set}
 use lib.Seq.{lt-length-set}
-use Rattle.elements.specs.Bytes.{bytesOf, common}
-use Rattle.elements.proofs.Words.{Four, four, write-four, length-four}
-use Rattle.elements.proofs.write_elements.Statement.{statement}
-use Rattle.elements.proofs.write_elements.Tie as tie
+use Rattle.big_endian.specs.Bytes.{bytesOf, common}
+use Rattle.big_endian.proofs.Words.{Four, four, write-four, length-four}
+use Rattle.big_endian.proofs.write_elements.Statement.{statement}
+use Rattle.big_endian.proofs.write_elements.Tie as tie
 
 abbrev Inv-loop : tie.InvT-loop
 Inv-loop xs out₀ n i₀ out i =

@@ -20,7 +20,7 @@ use lib.ListN.{length, getD, take, drop, length-append, length-drop, List·getD-
 use lib.Seq.{getD-append-add, getD-at, take-add, take-suc, take-all, getD-drop, ext-getD}
 use Rattle.algebra.specs.Lists.{tab, AllBelow}
 use Rattle.algebra.proofs.Lists.{length-tab, getD-tab, below-append}
-use Rattle.elements.specs.Bytes.{bigEndian, numberAt, bytesOf, elementsOf}
+use Rattle.big_endian.specs.Bytes.{bigEndian, numberAt, bytesOf, elementsOf}
 
 pub length-bigEndian : (width x : ℕ) → length (bigEndian width x) ≡ width
 unfolding bigEndian

@@ -1,4 +1,4 @@
--- `elements::read_elements` meets its contract.
+-- `big_endian::read_elements` meets its contract.
 use mathlib.Core.Path.{_≡_, refl, sym, ap, _∙_}
 use mathlib.Core.List.{List, _++_}
 use Prim.Native.Nat.{ℕ, _+_, _-_, _*_, _/_, _≤_}
@@ -8,10 +8,10 @@ use borrow.Author.Needs.{needs}
 use lib.ListN.{length, drop, set, length-set}
 use Rattle.algebra.specs.Lists.{tab}
 use Rattle.algebra.proofs.Fronts.{front-none, front-more}
-use Rattle.elements.specs.Bytes.{numberAt, elementsOf, common}
-use Rattle.elements.proofs.Words.{number-of-four, Four, four}
-use Rattle.elements.proofs.read_elements.Statement.{statement}
-use Rattle.elements.proofs.read_elements.Tie as tie
+use Rattle.big_endian.specs.Bytes.{numberAt, elementsOf, common}
+use Rattle.big_endian.proofs.Words.{number-of-four, Four, four}
+use Rattle.big_endian.proofs.read_elements.Statement.{statement}
+use Rattle.big_endian.proofs.read_elements.Tie as tie
 
 -- the element at place i
 place : List ℕ → ℕ → ℕ

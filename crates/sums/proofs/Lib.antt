@@ -1,0 +1,2 @@
+-- Laws of rows of sums.
+pub mod Reduced

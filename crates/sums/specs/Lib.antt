@@ -1,0 +1,2 @@
+-- Rows of sums.
+pub mod Sums
