@@ -1,0 +1,181 @@
+// Whole numbers read from plain text, and places in a text by line and column. `specs/Numbers.antt` has the format.
+ghost use mathlib.Core.Path.{_≡_};
+ghost use mathlib.Core.Bool.{true};
+ghost use lib.ListN.{length, getD};
+ghost use Rattle.numbers.specs.Numbers.{isDigit, isSpace, setsApart, grown, fits, apart, after, numbersOf, answer, front};
+ghost use Rattle.numbers.specs.Places.{placeOf};
+use words::least;
+
+const SPACE: u8 = 32;
+
+const TAB: u8 = 9;
+
+const LINE_FEED: u8 = 10;
+
+const CARRIAGE_RETURN: u8 = 13;
+
+// The sign # that begins a comment.
+const COMMENT: u8 = 35;
+
+const ZERO: u8 = 48;
+
+const NINE: u8 = 57;
+
+// The least value that is too large: 2^32.
+const LIMIT: u64 = 4294967296;
+
+// What reading answers: how many numbers were read, or the place of the first fault.
+pub enum Numbers {
+    Read(usize),
+    Fault(usize),
+}
+
+// A place in a text, with line and column from 1.
+pub struct Place {
+    pub line: usize,
+    pub column: usize,
+}
+
+// Where in a text a byte stands: between numbers, after some digits of a number, of that value, or in a comment.
+enum Part {
+    Gap,
+    Number(u32),
+    Comment,
+}
+
+// The byte is that of a digit.
+fn is_digit(byte: u8) -> bool
+    ensures { λ r. ⌜ r ≡ isDigit byte ⌝ }
+{
+    ZERO <= byte && byte <= NINE
+}
+
+// The byte is white space.
+fn is_space(byte: u8) -> bool
+    ensures { λ r. ⌜ r ≡ isSpace byte ⌝ }
+{
+    byte == SPACE || byte == TAB || byte == LINE_FEED || byte == CARRIAGE_RETURN
+}
+
+// The byte may stand between numbers: white space, or the sign of a comment.
+fn sets_apart(byte: u8) -> bool
+    ensures { λ r. ⌜ r ≡ setsApart byte ⌝ }
+{
+    is_space(byte) || byte == COMMENT
+}
+
+// The value with one more digit.
+fn with_digit(value: u32, byte: u8) -> u64
+    requires { ⌜ isDigit byte ≡ true ⌝ }
+    ensures { λ r. ⌜ r ≡ grown value byte ⌝ }
+{
+    value as u64 * 10 + (byte - ZERO) as u64
+}
+
+// The byte is no fault in that part, room aside.
+fn fits_in(part: Part, byte: u8) -> bool
+    ensures { λ r. ⌜ r ≡ fits part byte ⌝ }
+{
+    let digit = is_digit(byte);
+    match part {
+        Part::Gap => digit || sets_apart(byte),
+        Part::Number(value) => {
+            if digit {
+                return with_digit(value, byte) < LIMIT;
+            }
+            sets_apart(byte)
+        }
+        Part::Comment => true,
+    }
+}
+
+// The part after a byte that is no digit, outside a comment.
+fn apart_by(byte: u8) -> Part
+    ensures { λ r. ⌜ r ≡ apart byte ⌝ }
+{
+    if byte == COMMENT { Part::Comment } else { Part::Gap }
+}
+
+// The part after a byte, which is no fault.
+fn part_after(part: Part, byte: u8) -> Part
+    requires { ⌜ fits part byte ≡ true ⌝ }
+    ensures { λ r. ⌜ r ≡ after part byte ⌝ }
+{
+    let digit = is_digit(byte);
+    match part {
+        Part::Gap => {
+            if digit {
+                return Part::Number((byte - ZERO) as u32);
+            }
+            apart_by(byte)
+        }
+        Part::Number(value) => {
+            if digit {
+                return Part::Number(with_digit(value, byte) as u32);
+            }
+            apart_by(byte)
+        }
+        Part::Comment => {
+            if byte == LINE_FEED {
+                return Part::Gap;
+            }
+            Part::Comment
+        }
+    }
+}
+
+// The byte at a place of the text, and a line feed past its end.
+fn byte_at(text: &[u8], i: usize) -> u8
+    ensures { λ r. ⌜ r ≡ getD (now (text .entry)) i 10 ⌝ }
+{
+    if i < text.len() { text[i] } else { LINE_FEED }
+}
+
+// Reads the numbers of the text to the front of the output, one after another, and tells how many. At a fault it stops and
+// tells the place.
+pub fn read_numbers(text: &[u8], out: &mut [u32]) -> Numbers
+    ensures answer { λ r. ⌜ r ≡ answer (now (text .entry)) (length (now (out .entry))) ⌝ }
+    ensures output { λ _. ⌜ now (out .exit) ≡ front (numbersOf (now (text .entry)) (length (now (out .entry)))) (now (out .entry)) ⌝ }
+{
+    let mut part = Part::Gap;
+    let mut n = 0;
+    let mut i = 0;
+    while i <= text.len() {
+        let byte = byte_at(text, i);
+        if !fits_in(part, byte) {
+            return Numbers::Fault(i);
+        }
+        if let Part::Number(value) = part {
+            if !is_digit(byte) {
+                if n == out.len() {
+                    return Numbers::Fault(i);
+                }
+                out[n] = value;
+                n += 1;
+            }
+        }
+        part = part_after(part, byte);
+        i += 1;
+    }
+    Numbers::Read(n)
+}
+
+// The line and the column of the byte at a place of the text; at the text's length and beyond, those of its end.
+pub fn place_of(text: &[u8], at: usize) -> Place
+    ensures { λ r. ⌜ r ≡ placeOf (now (text .entry)) at ⌝ }
+{
+    let end = least(at, text.len());
+    let mut line = 1;
+    let mut column = 1;
+    let mut i = 0;
+    while i < end {
+        if text[i] == LINE_FEED {
+            line += 1;
+            column = 1;
+        } else {
+            column += 1;
+        }
+        i += 1;
+    }
+    Place { line, column }
+}
