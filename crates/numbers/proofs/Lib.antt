@@ -1,4 +1,5 @@
--- Laws of reading numbers from a text.
+-- Laws of reading numbers from a text, and of places in it.
 pub mod Steps
 pub mod Texts
+pub mod Reading
 pub mod Places

@@ -1,15 +1,23 @@
 -- Laws of one byte's reading.
 --
---   is-digit       the byte of a digit is 48 to 57
---   stays-small    a further digit that is no fault leaves the value below 2^32
-use mathlib.Core.Path.{_≡_, sym, subst}
-use mathlib.Core.Bool.{true}
-use Prim.Native.Nat.{ℕ, _^_, _<_, _≤_}
+--   is-digit                   the byte of a digit is 48 to 57
+--   stays-small                a further digit that is no fault leaves the value below 2^32
+--   ended-one, ended-none      the number that a byte ends, and where it ends none
+--   taken-one, taken-none      such a byte, where it is no fault
+--   refused-byte, refused-room   a fault
+--   reached-on, found-on       after a byte that is no fault
+--   reached-off, found-off     at a fault
+use mathlib.Core.Path.{_≡_, refl, sym, ap, _∙_, subst}
+use mathlib.Core.Bool.{true, false}
+use mathlib.Core.List.{List, [], _∷_, _++_}
+use Prim.Native.Nat.{ℕ, suc, _-_, _^_, _<_, _≤_}
+use native.Mathlib.Omega.{arith}
 use lib.Dec.{T, leb, leb→le}
-use borrow.Author.Tests.{ltb-true}
+use lib.ListN.{length}
+use borrow.Author.Tests.{ltb-true, le-leb, lt-leb}
 use Rattle.algebra.proofs.Tests.{and-left, and-right}
 use Rattle.numbers.specs.declared.Part.{Part}
-use Rattle.numbers.specs.Numbers.{isDigit, grown, fits}
+use Rattle.numbers.specs.Numbers.{isDigit, grown, fits, after, ends, value, ended, taken, reached, found}
 
 pub is-digit : (b : ℕ) → isDigit b ≡ true → (48 ≤ b) × (b ≤ 57)
 unfolding isDigit
@@ -20,3 +28,46 @@ is-digit b e =
 pub stays-small : {part : Part} {v : ℕ} (b : ℕ) → part ≡ Part.Number v → isDigit b ≡ true → fits part b ≡ true → grown v b < 2 ^ 32
 unfolding fits
 stays-small {part} {v} b is digit ok = ltb-true (grown v b) (2 ^ 32) (rw (is, digit) at ok)
+
+module _ (part : Part) (b : ℕ) where
+  pub ended-one : ends part b ≡ true → ended part b ≡ value part ∷ []
+  unfolding ended
+  ended-one e = rw e
+
+  pub ended-none : ends part b ≡ false → ended part b ≡ []
+  unfolding ended
+  ended-none e = rw e
+
+module _ (part : Part) (room b : ℕ) where
+  pub taken-one : fits part b ≡ true → ends part b ≡ true → 0 < room → taken part room b ≡ true
+  unfolding taken
+  taken-one ok e h = rw (ok, ended-one part b e) (le-leb 1 room h)
+
+  pub taken-none : fits part b ≡ true → ends part b ≡ false → taken part room b ≡ true
+  unfolding taken
+  taken-none ok e = rw (ok, ended-none part b e) (le-leb 0 room (omega arith))
+
+  pub refused-byte : fits part b ≡ false → taken part room b ≡ false
+  unfolding taken
+  refused-byte e = rw e
+
+  pub refused-room : fits part b ≡ true → ends part b ≡ true → room ≡ 0 → taken part room b ≡ false
+  unfolding taken
+  refused-room ok e none = rw (ok, ended-one part b e) (lt-leb 1 room (omega arith))
+
+module _ (part : Part) (room b : ℕ) (bs : List ℕ) where
+  pub reached-on : taken part room b ≡ true → reached part room (b ∷ bs) ≡ suc (reached (after part b) (room - length (ended part b)) bs)
+  unfolding reached
+  reached-on e = rw e
+
+  pub found-on : taken part room b ≡ true → found part room (b ∷ bs) ≡ ended part b ++ found (after part b) (room - length (ended part b)) bs
+  unfolding found
+  found-on e = rw e
+
+  pub reached-off : taken part room b ≡ false → reached part room (b ∷ bs) ≡ 0
+  unfolding reached
+  reached-off e = rw e
+
+  pub found-off : taken part room b ≡ false → found part room (b ∷ bs) ≡ []
+  unfolding found
+  found-off e = rw e

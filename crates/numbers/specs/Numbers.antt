@@ -16,6 +16,8 @@
 --   fits part b            == b is no fault in that part, room aside
 --   apart b                == the part after b, outside a comment, where b is no digit
 --   after part b           == the part after b
+--   ends part b            == b ends a number there
+--   value part             == the value of the number's digits so far; 0, where none is begun
 --   ended part b           == the number that b ends, where it ends one
 --   taken part room b      == b is no fault in that part, with room for so many numbers
 --   reached part room bs   == how many of the bytes bs stand before the first fault; all, where there is none
@@ -26,7 +28,7 @@
 --   answer text room       == what reading answers
 --   front ns out           == the output with the numbers ns at its front, and past them what it held
 --   written ns             == the text of the numbers ns: each in decimal, with a line feed after it
-use mathlib.Core.Bool.{Bool, true, cond, _&&_, _||_}
+use mathlib.Core.Bool.{Bool, true, false, not, cond, _&&_, _||_}
 use mathlib.Core.List.{List, [], _∷_, _++_}
 use Prim.Native.Nat.{ℕ, suc, _+_, _-_, _*_, _^_}
 use lib.Dec.{ltb, leb, eqb}
@@ -60,10 +62,18 @@ after Part.Gap b = cond (isDigit b) (Part.Number (b - 48)) (apart b)
 after (Part.Number v) b = cond (isDigit b) (Part.Number (grown v b)) (apart b)
 after Part.Comment b = cond (eqb b 10) Part.Gap Part.Comment
 
+unfoldable pub ends : Part → ℕ → Bool
+ends Part.Gap b = false
+ends (Part.Number v) b = not (isDigit b)
+ends Part.Comment b = false
+
+unfoldable pub value : Part → ℕ
+value Part.Gap = 0
+value (Part.Number v) = v
+value Part.Comment = 0
+
 unfoldable pub ended : Part → ℕ → List ℕ
-ended Part.Gap b = []
-ended (Part.Number v) b = cond (isDigit b) [] (v ∷ [])
-ended Part.Comment b = []
+ended part b = cond (ends part b) (value part ∷ []) []
 
 unfoldable pub taken : Part → ℕ → ℕ → Bool
 taken part room b = fits part b && leb (length (ended part b)) room

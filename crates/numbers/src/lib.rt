@@ -2,7 +2,7 @@
 ghost use mathlib.Core.Path.{_≡_};
 ghost use mathlib.Core.Bool.{true};
 ghost use lib.ListN.{length, getD};
-ghost use Rattle.numbers.specs.Numbers.{isDigit, isSpace, setsApart, grown, fits, apart, after, numbersOf, answer, front};
+ghost use Rattle.numbers.specs.Numbers.{isDigit, isSpace, setsApart, grown, fits, apart, after, ends, value, numbersOf, answer, front};
 ghost use Rattle.numbers.specs.Places.{placeOf};
 use words::least;
 
@@ -124,6 +124,28 @@ fn part_after(part: Part, byte: u8) -> Part
     }
 }
 
+// The byte ends a number there.
+fn ends_number(part: Part, byte: u8) -> bool
+    ensures { λ r. ⌜ r ≡ ends part byte ⌝ }
+{
+    match part {
+        Part::Gap => false,
+        Part::Number(_) => !is_digit(byte),
+        Part::Comment => false,
+    }
+}
+
+// The value of the number's digits so far; 0, where none is begun.
+fn value_of(part: Part) -> u32
+    ensures { λ r. ⌜ r ≡ value part ⌝ }
+{
+    match part {
+        Part::Gap => 0,
+        Part::Number(v) => v,
+        Part::Comment => 0,
+    }
+}
+
 // The byte at a place of the text, and a line feed past its end.
 fn byte_at(text: &[u8], i: usize) -> u8
     ensures { λ r. ⌜ r ≡ getD (now (text .entry)) i 10 ⌝ }
@@ -145,14 +167,12 @@ pub fn read_numbers(text: &[u8], out: &mut [u32]) -> Numbers
         if !fits_in(part, byte) {
             return Numbers::Fault(i);
         }
-        if let Part::Number(value) = part {
-            if !is_digit(byte) {
-                if n == out.len() {
-                    return Numbers::Fault(i);
-                }
-                out[n] = value;
-                n += 1;
+        if ends_number(part, byte) {
+            if n == out.len() {
+                return Numbers::Fault(i);
             }
+            out[n] = value_of(part);
+            n += 1;
         }
         part = part_after(part, byte);
         i += 1;
