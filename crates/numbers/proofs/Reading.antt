@@ -17,7 +17,7 @@ use lib.Seq.{length-take-le, take-suc-set, drop-set-lt, drop-drop}
 use borrow.Author.Tests.{le-leb, lt-leb}
 use Rattle.numbers.specs.declared.Part.{Part}
 use Rattle.numbers.specs.declared.Numbers.{Numbers}
-use Rattle.numbers.specs.Numbers.{fits, after, ends, value, ended, taken, reached, found, closed, reach, numbersOf, answer, front}
+use Rattle.numbers.specs.Numbers.{apart, fits, after, ends, ended, taken, reached, found, closed, reach, numbersOf, answer, front}
 use Rattle.numbers.proofs.Texts.{closed-byte}
 use Rattle.numbers.proofs.Steps.{ended-one, ended-none, taken-one, taken-none, refused-byte, refused-room, reached-on, found-on, reached-off, found-off}
 
@@ -28,7 +28,7 @@ pub record Read-on (text out₀ out : List ℕ) (part : Part) (n i : ℕ) : Type
   pub to : reach text (length out₀) ≡ i + reached part (length out₀ - n) (drop i (closed text))
   pub numbers : numbersOf text (length out₀) ≡ take n out ++ found part (length out₀ - n) (drop i (closed text))
 
-pub read-none : (text out : List ℕ) → Read-on text out out Part.Gap 0 0
+pub read-none : (text out : List ℕ) → Read-on text out out (apart false) 0 0
 unfolding reach numbersOf
 read-none text out =
     let all : length out - 0 ≡ length out = omega arith in
@@ -97,7 +97,7 @@ module _ {text out₀ out : List ℕ} {part : Part} {n i : ℕ} (r : Read-on tex
       }
 
   pub read-number : fits part b ≡ true → ends part b ≡ true → n < length out₀
-      → Read-on text out₀ (set out n (value part)) (after part b) (n + 1) (i + 1)
+      → Read-on text out₀ (set out n (part .value)) (after part b) (n + 1) (i + 1)
   unfolding rest left
   read-number ok e h =
       let t = taken-one part left b ok e (omega arith) in
@@ -106,10 +106,10 @@ module _ {text out₀ out : List ℕ} {part : Part} {n i : ℕ} (r : Read-on tex
       let inside : n < length out = omega (arith, r .same) in
       record {
         room = omega arith;
-        same = length-set out n (value part) ∙ r .same;
-        old = drop-set-lt (n + 1) out n (value part) (omega arith) ∙ sym (drop-drop 1 n out) ∙ ap (drop 1) (r .old) ∙ drop-drop 1 n out₀;
+        same = length-set out n (part .value) ∙ r .same;
+        old = drop-set-lt (n + 1) out n (part .value) (omega arith) ∙ sym (drop-drop 1 n out) ∙ ap (drop 1) (r .old) ∙ drop-drop 1 n out₀;
         to = rw (add-one, add-one) (rw (one, less) at (to-on t));
-        numbers = rw (add-one, add-one, take-suc-set out n (value part) inside) (rw (one, less) at (numbers-on t));
+        numbers = rw (add-one, add-one, take-suc-set out n (part .value) inside) (rw (one, less) at (numbers-on t));
       }
 
   pub read-fault : taken part (length out₀ - n) b ≡ false

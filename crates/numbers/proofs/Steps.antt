@@ -1,23 +1,24 @@
 -- Laws of one byte's reading.
 --
 --   is-digit                   the byte of a digit is 48 to 57
---   stays-small                a further digit that is no fault leaves the value below 2^32
+--   fits-comment, fits-digit, fits-other    what fits in a comment, and outside
+--   after-comment, after-digit, after-other   the part after it
 --   ended-one, ended-none      the number that a byte ends, and where it ends none
 --   taken-one, taken-none      such a byte, where it is no fault
 --   refused-byte, refused-room   a fault
 --   reached-on, found-on       after a byte that is no fault
 --   reached-off, found-off     at a fault
-use mathlib.Core.Path.{_≡_, refl, sym, ap, _∙_, subst}
-use mathlib.Core.Bool.{true, false}
+use mathlib.Core.Path.{_≡_, sym, subst}
+use mathlib.Core.Bool.{true, false, not}
 use mathlib.Core.List.{List, [], _∷_, _++_}
 use Prim.Native.Nat.{ℕ, suc, _-_, _^_, _<_, _≤_}
 use native.Mathlib.Omega.{arith}
-use lib.Dec.{T, leb, leb→le}
+use lib.Dec.{T, leb, ltb, eqb, leb→le}
 use lib.ListN.{length}
-use borrow.Author.Tests.{ltb-true, le-leb, lt-leb}
+use borrow.Author.Tests.{le-leb, lt-leb}
 use Rattle.algebra.proofs.Tests.{and-left, and-right}
 use Rattle.numbers.specs.declared.Part.{Part}
-use Rattle.numbers.specs.Numbers.{isDigit, grown, fits, after, ends, value, ended, taken, reached, found}
+use Rattle.numbers.specs.Numbers.{isDigit, setsApart, apart, number, grown, fits, after, ends, ended, taken, reached, found}
 
 pub is-digit : (b : ℕ) → isDigit b ≡ true → (48 ≤ b) × (b ≤ 57)
 unfolding isDigit
@@ -25,12 +26,32 @@ is-digit b e =
     let t : T (isDigit b) = subst T (sym e) tt in
     (leb→le 48 b (and-left (leb 48 b) (leb b 57) t), leb→le b 57 (and-right (leb 48 b) (leb b 57) t))
 
-pub stays-small : {part : Part} {v : ℕ} (b : ℕ) → part ≡ Part.Number v → isDigit b ≡ true → fits part b ≡ true → grown v b < 2 ^ 32
-unfolding fits
-stays-small {part} {v} b is digit ok = ltb-true (grown v b) (2 ^ 32) (rw (is, digit) at ok)
-
 module _ (part : Part) (b : ℕ) where
-  pub ended-one : ends part b ≡ true → ended part b ≡ value part ∷ []
+  pub fits-comment : part .comment ≡ true → fits part b ≡ true
+  unfolding fits
+  fits-comment c = rw c
+
+  pub fits-digit : part .comment ≡ false → isDigit b ≡ true → fits part b ≡ ltb (grown part b) (2 ^ 32)
+  unfolding fits
+  fits-digit c d = rw (c, d)
+
+  pub fits-other : part .comment ≡ false → isDigit b ≡ false → fits part b ≡ setsApart b
+  unfolding fits
+  fits-other c d = rw (c, d)
+
+  pub after-comment : part .comment ≡ true → after part b ≡ apart (not (eqb b 10))
+  unfolding after
+  after-comment c = rw c
+
+  pub after-digit : part .comment ≡ false → isDigit b ≡ true → after part b ≡ number (grown part b)
+  unfolding after
+  after-digit c d = rw (c, d)
+
+  pub after-other : part .comment ≡ false → isDigit b ≡ false → after part b ≡ apart (eqb b 35)
+  unfolding after
+  after-other c d = rw (c, d)
+
+  pub ended-one : ends part b ≡ true → ended part b ≡ part .value ∷ []
   unfolding ended
   ended-one e = rw e
 

@@ -8,16 +8,15 @@
 -- which there is no room. A fault is told by its place in the text, counted from 0.
 --
 --   isDigit b              == b is the byte of a digit
---   isSpace b              == b is white space
 --   setsApart b            == b may stand between numbers: white space, or the # of a comment
---   Part                   == where in a text a byte stands: in a Gap between numbers, in a Comment, or after some digits of
---                             a Number, of that value
---   grown v b              == the value v with the digit b after it
+--   Part                   == where in a text a byte stands: whether in a comment, whether after some digits of a number,
+--                             and their value, or 0
+--   apart comment          == a part outside numbers: in a comment, or in none
+--   number v               == a part after the digits of a number, of value v
+--   grown part b           == the value with the digit b after the others
 --   fits part b            == b is no fault in that part, room aside
---   apart b                == the part after b, outside a comment, where b is no digit
---   after part b           == the part after b
---   ends part b            == b ends a number there
---   value part             == the value of the number's digits so far; 0, where none is begun
+--   after part b           == the part after b, where b fits
+--   ends part b            == b ends a number
 --   ended part b           == the number that b ends, where it ends one
 --   taken part room b      == b is no fault in that part, with room for so many numbers
 --   reached part room bs   == how many of the bytes bs stand before the first fault; all, where there is none
@@ -40,40 +39,30 @@ use Rattle.text.specs.Decimal.{decimal}
 unfoldable pub isDigit : ℕ → Bool
 isDigit b = leb 48 b && leb b 57
 
-unfoldable pub isSpace : ℕ → Bool
-isSpace b = eqb b 32 || eqb b 9 || eqb b 10 || eqb b 13
-
 unfoldable pub setsApart : ℕ → Bool
-setsApart b = isSpace b || eqb b 35
+setsApart b = eqb b 32 || eqb b 9 || eqb b 10 || eqb b 13 || eqb b 35
 
-unfoldable pub grown : ℕ → ℕ → ℕ
-grown v b = v * 10 + (b - 48)
+unfoldable pub apart : Bool → Part
+apart comment = record { comment = comment; begun = false; value = 0 }
+
+unfoldable pub number : ℕ → Part
+number v = record { comment = false; begun = true; value = v }
+
+unfoldable pub grown : Part → ℕ → ℕ
+grown part b = part .value * 10 + (b - 48)
 
 unfoldable pub fits : Part → ℕ → Bool
-fits Part.Gap b = isDigit b || setsApart b
-fits (Part.Number v) b = cond (isDigit b) (ltb (grown v b) (2 ^ 32)) (setsApart b)
-fits Part.Comment b = true
-
-unfoldable pub apart : ℕ → Part
-apart b = cond (eqb b 35) Part.Comment Part.Gap
+fits part b = part .comment || cond (isDigit b) (ltb (grown part b) (2 ^ 32)) (setsApart b)
 
 unfoldable pub after : Part → ℕ → Part
-after Part.Gap b = cond (isDigit b) (Part.Number (b - 48)) (apart b)
-after (Part.Number v) b = cond (isDigit b) (Part.Number (grown v b)) (apart b)
-after Part.Comment b = cond (eqb b 10) Part.Gap Part.Comment
+after part b =
+    cond (part .comment) (apart (not (eqb b 10))) (cond (isDigit b) (number (grown part b)) (apart (eqb b 35)))
 
 unfoldable pub ends : Part → ℕ → Bool
-ends Part.Gap b = false
-ends (Part.Number v) b = not (isDigit b)
-ends Part.Comment b = false
-
-unfoldable pub value : Part → ℕ
-value Part.Gap = 0
-value (Part.Number v) = v
-value Part.Comment = 0
+ends part b = part .begun && not (isDigit b)
 
 unfoldable pub ended : Part → ℕ → List ℕ
-ended part b = cond (ends part b) (value part ∷ []) []
+ended part b = cond (ends part b) (part .value ∷ []) []
 
 unfoldable pub taken : Part → ℕ → ℕ → Bool
 taken part room b = fits part b && leb (length (ended part b)) room
@@ -90,10 +79,10 @@ unfoldable pub closed : List ℕ → List ℕ
 closed text = text ++ (10 ∷ [])
 
 unfoldable pub reach : List ℕ → ℕ → ℕ
-reach text room = reached Part.Gap room (closed text)
+reach text room = reached (apart false) room (closed text)
 
 unfoldable pub numbersOf : List ℕ → ℕ → List ℕ
-numbersOf text room = found Part.Gap room (closed text)
+numbersOf text room = found (apart false) room (closed text)
 
 unfoldable pub answer : List ℕ → ℕ → Numbers
 answer text room =

@@ -2,7 +2,7 @@
 ghost use mathlib.Core.Path.{_≡_};
 ghost use mathlib.Core.Bool.{true};
 ghost use lib.ListN.{length, getD};
-ghost use Rattle.numbers.specs.Numbers.{isDigit, isSpace, setsApart, grown, fits, apart, after, ends, value, numbersOf, answer, front};
+ghost use Rattle.numbers.specs.Numbers.{isDigit, setsApart, grown, fits, after, ends, numbersOf, answer, front};
 ghost use Rattle.numbers.specs.Places.{placeOf};
 use words::least;
 
@@ -36,11 +36,11 @@ pub struct Place {
     pub column: usize,
 }
 
-// Where in a text a byte stands: between numbers, after some digits of a number, of that value, or in a comment.
-enum Part {
-    Gap,
-    Number(u32),
-    Comment,
+// Where in a text a byte stands: whether in a comment, whether after some digits of a number, and their value, or 0.
+struct Part {
+    comment: bool,
+    begun: bool,
+    value: u32,
 }
 
 // The byte is that of a digit.
@@ -50,100 +50,65 @@ fn is_digit(byte: u8) -> bool
     ZERO <= byte && byte <= NINE
 }
 
-// The byte is white space.
-fn is_space(byte: u8) -> bool
-    ensures { λ r. ⌜ r ≡ isSpace byte ⌝ }
-{
-    byte == SPACE || byte == TAB || byte == LINE_FEED || byte == CARRIAGE_RETURN
-}
-
 // The byte may stand between numbers: white space, or the sign of a comment.
 fn sets_apart(byte: u8) -> bool
     ensures { λ r. ⌜ r ≡ setsApart byte ⌝ }
 {
-    is_space(byte) || byte == COMMENT
+    match byte {
+        SPACE | TAB | LINE_FEED | CARRIAGE_RETURN | COMMENT => true,
+        _ => false,
+    }
 }
 
 // The value with one more digit.
-fn with_digit(value: u32, byte: u8) -> u64
+fn with_digit(part: Part, byte: u8) -> u64
     requires { ⌜ isDigit byte ≡ true ⌝ }
-    ensures { λ r. ⌜ r ≡ grown value byte ⌝ }
+    ensures { λ r. ⌜ r ≡ grown part byte ⌝ }
 {
-    value as u64 * 10 + (byte - ZERO) as u64
+    part.value as u64 * 10 + (byte - ZERO) as u64
 }
 
 // The byte is no fault in that part, room aside.
 fn fits_in(part: Part, byte: u8) -> bool
     ensures { λ r. ⌜ r ≡ fits part byte ⌝ }
 {
-    let digit = is_digit(byte);
-    match part {
-        Part::Gap => digit || sets_apart(byte),
-        Part::Number(value) => {
-            if digit {
-                return with_digit(value, byte) < LIMIT;
-            }
-            sets_apart(byte)
-        }
-        Part::Comment => true,
+    if part.comment {
+        return true;
     }
+    if is_digit(byte) {
+        return with_digit(part, byte) < LIMIT;
+    }
+    sets_apart(byte)
 }
 
-// The part after a byte that is no digit, outside a comment.
-fn apart_by(byte: u8) -> Part
-    ensures { λ r. ⌜ r ≡ apart byte ⌝ }
-{
-    if byte == COMMENT { Part::Comment } else { Part::Gap }
-}
-
-// The part after a byte, which is no fault.
+// The part after a byte, which fits.
 fn part_after(part: Part, byte: u8) -> Part
     requires { ⌜ fits part byte ≡ true ⌝ }
     ensures { λ r. ⌜ r ≡ after part byte ⌝ }
 {
-    let digit = is_digit(byte);
-    match part {
-        Part::Gap => {
-            if digit {
-                return Part::Number((byte - ZERO) as u32);
-            }
-            apart_by(byte)
-        }
-        Part::Number(value) => {
-            if digit {
-                return Part::Number(with_digit(value, byte) as u32);
-            }
-            apart_by(byte)
-        }
-        Part::Comment => {
-            if byte == LINE_FEED {
-                return Part::Gap;
-            }
-            Part::Comment
-        }
+    let mut next = Part {
+        comment: false,
+        begun: false,
+        value: 0,
+    };
+    if part.comment {
+        next.comment = byte != LINE_FEED;
+        return next;
     }
+    if is_digit(byte) {
+        next.begun = true;
+        next.value = with_digit(part, byte) as u32;
+        return next;
+    }
+    next.comment = byte == COMMENT;
+    next
 }
 
-// The byte ends a number there.
+// The byte ends a number.
 fn ends_number(part: Part, byte: u8) -> bool
     ensures { λ r. ⌜ r ≡ ends part byte ⌝ }
 {
-    match part {
-        Part::Gap => false,
-        Part::Number(_) => !is_digit(byte),
-        Part::Comment => false,
-    }
-}
-
-// The value of the number's digits so far; 0, where none is begun.
-fn value_of(part: Part) -> u32
-    ensures { λ r. ⌜ r ≡ value part ⌝ }
-{
-    match part {
-        Part::Gap => 0,
-        Part::Number(v) => v,
-        Part::Comment => 0,
-    }
+    part.begun && !is_digit(byte)
 }
 
 // The byte at a place of the text, and a line feed past its end.
@@ -159,7 +124,11 @@ pub fn read_numbers(text: &[u8], out: &mut [u32]) -> Numbers
     ensures answer { λ r. ⌜ r ≡ answer (now (text .entry)) (length (now (out .entry))) ⌝ }
     ensures output { λ _. ⌜ now (out .exit) ≡ front (numbersOf (now (text .entry)) (length (now (out .entry)))) (now (out .entry)) ⌝ }
 {
-    let mut part = Part::Gap;
+    let mut part = Part {
+        comment: false,
+        begun: false,
+        value: 0,
+    };
     let mut n = 0;
     let mut i = 0;
     while i <= text.len() {
@@ -171,7 +140,7 @@ pub fn read_numbers(text: &[u8], out: &mut [u32]) -> Numbers
             if n == out.len() {
                 return Numbers::Fault(i);
             }
-            out[n] = value_of(part);
+            out[n] = part.value;
             n += 1;
         }
         part = part_after(part, byte);

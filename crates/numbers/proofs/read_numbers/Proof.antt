@@ -7,7 +7,7 @@ use native.Mathlib.Omega.{arith}
 use lib.ListN.{length}
 use borrow.Author.Tests.{not-true, not-false}
 use borrow.Author.Needs.{needs}
-use Rattle.numbers.specs.Numbers.{fits, ends}
+use Rattle.numbers.specs.Numbers.{apart, fits, ends}
 use Rattle.numbers.proofs.Steps.{refused-byte, refused-room}
 use Rattle.numbers.proofs.Reading.{Read-on, read-none, read-more, read-number, read-fault, read-all}
 use Rattle.numbers.proofs.read_numbers.Statement.{statement}
@@ -20,6 +20,7 @@ abbrev μ-loop : tie.MeasureT-loop
 μ-loop text out₀ part₀ n₀ i₀ out part n i = length text + 1 - i
 
 loop-holds : tie.Need-loop-holds Inv-loop μ-loop
+unfolding apart
 loop-holds c = record { few = omega arith; so-far = read-none _ _ }
 
 byte-at-requires : tie.Need-byte-at-requires Inv-loop μ-loop
@@ -59,9 +60,6 @@ returns-2 c =
     read-fault (l .inv .so-far) (b .before .loop-test .taken) (b .byte-at .result) (b .byte-at .ensures)
     (refused-room _ _ _ (fit e) (at-end (c .before)) (omega arith))
 
-value-of-requires : tie.Need-value-of-requires Inv-loop μ-loop
-value-of-requires c κs = search needs
-
 mul-out : tie.Need-mul-out Inv-loop μ-loop
 mul-out c = omega arith
 
@@ -91,7 +89,7 @@ loop-again c =
       few = omega arith;
       so-far = rw (c .part-after .ensures)
           (⊎-elim
-          (λ w. rw (w .3, w .4, w .2 .ensures)
+          (λ w. rw (w .2, w .3)
           (read-number (l .inv .so-far) (b .before .loop-test .taken) byte (b .byte-at .ensures) (fit e) (sym (j .before .ends-number .ensures) ∙ w .0 .taken) (omega arith)))
           (λ w. rw (w .1, w .2)
           (read-more (l .inv .so-far) (b .before .loop-test .taken) byte (b .byte-at .ensures) (fit e) (sym (j .before .ends-number .ensures) ∙ w .0 .left)))
@@ -118,7 +116,6 @@ read-numbers-spec =
     ends-number-requires
     same-length-2
     returns-2
-    value-of-requires
     mul-out
     slice-write-out
     add-n
