@@ -86,22 +86,25 @@ fn part_after(part: Part, byte: u8) -> Part
     requires { ⌜ fits part byte ≡ true ⌝ }
     ensures { λ r. ⌜ r ≡ after part byte ⌝ }
 {
-    let mut next = Part {
-        comment: false,
-        begun: false,
-        value: 0,
-    };
     if part.comment {
-        next.comment = byte != LINE_FEED;
-        return next;
+        return Part {
+            comment: byte != LINE_FEED,
+            begun: false,
+            value: 0,
+        };
     }
     if is_digit(byte) {
-        next.begun = true;
-        next.value = with_digit(part, byte) as u32;
-        return next;
+        return Part {
+            comment: false,
+            begun: true,
+            value: with_digit(part, byte) as u32,
+        };
     }
-    next.comment = byte == COMMENT;
-    next
+    Part {
+        comment: byte == COMMENT,
+        begun: false,
+        value: 0,
+    }
 }
 
 // The byte ends a number.

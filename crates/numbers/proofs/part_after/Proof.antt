@@ -29,8 +29,8 @@ small c =
     let e = c .before .before in
     ltb-true _ _ (sym (fits-digit _ _ (e .if1 .left) (digit c)) ∙ e .before .pre)
 
-cast-next : tie.Need-cast-next
-cast-next c = omega (arith, c .with-digit .ensures, small (c .before))
+cast-t7 : tie.Need-cast-t7
+cast-t7 c = omega (arith, c .with-digit .ensures, small (c .before))
 
 returns-2 : tie.Need-returns-2
 unfolding number
@@ -45,4 +45,4 @@ returns-3 c =
 pub part-after-spec : {M : Type 1} → statement M
 part-after-spec =
     tie.close
-    (tie.spec returns is-digit-requires with-digit-requires cast-next returns-2 returns-3)
+    (tie.spec returns is-digit-requires with-digit-requires cast-t7 returns-2 returns-3)
