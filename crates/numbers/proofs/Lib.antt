@@ -2,4 +2,5 @@
 pub mod Steps
 pub mod Texts
 pub mod Reading
+pub mod Written
 pub mod Places

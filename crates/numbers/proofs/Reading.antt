@@ -6,7 +6,7 @@
 --   read-number         one byte more, which ends a number
 --   read-fault          a byte that is a fault
 --   read-all            all the bytes
-use mathlib.Core.Path.{_≡_, refl, sym, ap, ap₂, _∙_, subst}
+use mathlib.Core.Path.{_≡_, refl, sym, ap, _∙_}
 use mathlib.Core.Bool.{true, false}
 use mathlib.Core.List.{List, [], _∷_, _++_, append-nil, append-assoc}
 use Prim.Native.Nat.{ℕ, suc, _+_, _-_, _<_, _≤_}
@@ -19,7 +19,7 @@ use Rattle.numbers.specs.declared.Part.{Part}
 use Rattle.numbers.specs.declared.Numbers.{Numbers}
 use Rattle.numbers.specs.Numbers.{apart, fits, after, ends, ended, taken, reached, found, closed, reach, numbersOf, answer, front}
 use Rattle.numbers.proofs.Texts.{closed-byte}
-use Rattle.numbers.proofs.Steps.{ended-one, ended-none, taken-one, taken-none, refused-byte, refused-room, reached-on, found-on, reached-off, found-off}
+use Rattle.numbers.proofs.Steps.{ended-one, ended-none, taken-one, taken-none, reached-on, found-on, reached-off, found-off}
 
 pub record Read-on (text out₀ out : List ℕ) (part : Part) (n i : ℕ) : Type 0 where
   pub room : n ≤ length out₀
