@@ -1,11 +1,9 @@
 -- Laws of places in a text.
 --
---   feeds-feed, feeds-other    one more byte: a line feed, and any other
---   last-feed, last-other      the bytes after the last line feed, with one more byte
---   Counted                    line and column after the first i bytes
---   counted-none               none
---   counted-feed, counted-other   one more byte
---   counted-all                all the bytes before a place
+--   Counted                        line and column after the first i bytes
+--   counted-none                   no byte
+--   counted-feed, counted-other    one byte more: a line feed, and any other
+--   counted-all                    all the bytes before a place
 use mathlib.Core.Path.{_≡_, refl, sym, ap, ap₂, _∙_}
 use mathlib.Core.Bool.{Bool, true, false, cond}
 use mathlib.Core.Logic.{⊎-elim}
@@ -22,6 +20,7 @@ use Rattle.algebra.proofs.Orders.{le-or-lt}
 use Rattle.numbers.specs.declared.Place.{Place}
 use Rattle.numbers.specs.Places.{feeds, lastLine, placeOf}
 
+-- the line feeds of some bytes and one more: a line feed, and any other
 feeds-more : (bs : List ℕ) (x : ℕ) → feeds (bs ++ (x ∷ [])) ≡ feeds bs + feeds (x ∷ [])
 unfolding feeds
 feeds-more [] x = omega arith
@@ -39,6 +38,7 @@ feeds-other : (bs : List ℕ) (x : ℕ) → (x ≡ 10 → ⊥) → feeds (bs ++ 
 unfolding feeds
 feeds-other bs x h = let none : feeds (x ∷ []) ≡ 0 = rw (ne-eqb x 10 h) in omega (arith, feeds-more bs x)
 
+-- the last line of some bytes and one more
 last-feed : (bs : List ℕ) → lastLine (bs ++ (10 ∷ [])) ≡ []
 unfolding lastLine feeds
 last-feed [] = refl

@@ -1,11 +1,10 @@
 -- A loop reads a text byte by byte, and writes its numbers to the front of an output.
 --
---   Read-on             the output then has the numbers found so far, and past them what it held
---   read-none           no byte at first
---   read-more           one byte more, which ends no number
---   read-number         one byte more, which ends a number
---   read-fault          a byte that is a fault
---   read-all            all the bytes
+--   Read-on                   n numbers are read of the first i bytes: the output has them, and past them what it held
+--   read-none                 no byte
+--   read-more, read-number    one byte more, which ends no number, and which ends one
+--   read-fault                a byte that is a fault
+--   read-all                  all the bytes
 use mathlib.Core.Path.{_≡_, refl, sym, ap, _∙_}
 use mathlib.Core.Bool.{true, false}
 use mathlib.Core.List.{List, [], _∷_, _++_, append-nil, append-assoc}
@@ -71,6 +70,7 @@ module _ {text out₀ out : List ℕ} {part : Part} {n i : ℕ} (r : Read-on tex
   unfolding rest
   bytes = rw is (closed-byte text i within)
 
+  -- what is read, with b
   to-on : taken part left b ≡ true → reach text (length out₀) ≡ suc i + reached (after part b) (left - length (ended part b)) rest
   unfolding left
   to-on ok = r .to ∙ rw bytes (omega (arith, reached-on part left b rest ok))

@@ -1,13 +1,13 @@
 -- Laws of one byte's reading.
 --
---   is-digit                   the byte of a digit is 48 to 57
---   fits-comment, fits-digit, fits-other    what fits in a comment, and outside
---   after-comment, after-digit, after-other   the part after it
---   ended-one, ended-none      the number that a byte ends, and where it ends none
---   taken-one, taken-none      such a byte, where it is no fault
---   refused-byte, refused-room   a fault
---   reached-on, found-on       after a byte that is no fault
---   reached-off, found-off     at a fault
+--   is-digit                                   the byte of a digit is 48 to 57
+--   fits-comment, fits-digit, fits-other       what fits in a comment; and outside, a digit, and any other byte
+--   after-comment, after-digit, after-other    the part after it
+--   ended-one, ended-none                      the number that a byte ends, and where it ends none
+--   taken-one, taken-none                      such a byte, where it is no fault
+--   refused-byte, refused-room                 a fault: the byte does not fit, or the number has no room
+--   reached-on, found-on                       what is read after a byte that is no fault
+--   reached-off, found-off                     at a fault nothing
 use mathlib.Core.Path.{_≡_, sym, subst}
 use mathlib.Core.Bool.{true, false, not}
 use mathlib.Core.List.{List, [], _∷_, _++_}

@@ -1,12 +1,7 @@
 -- Numbers that are written out are read back.
 --
---   Leads p bs ns q     from the part p the bytes bs have no fault, end the numbers ns, where these have room, and lead to q
---   leads-none          no bytes
---   leads-byte          one byte that fits
---   leads-on            some bytes, and others after them
---   leads-decimal       the digits of a number
---   leads-written       the text of some numbers
---   read-back           a text of numbers below 2^32 reads back as exactly these numbers
+--   Leads p bs ns q    from the part p the bytes bs have no fault, end the numbers ns, where these have room, and lead to q
+--   read-back          the text of numbers below 2^32, where these have room, reads back as exactly these numbers
 use mathlib.Core.Path.{_≡_, refl, ap, _∙_}
 use mathlib.Core.Bool.{true, false}
 use mathlib.Core.Logic.{⊎-elim}
@@ -29,6 +24,7 @@ record Leads (p : Part) (bs ns : List ℕ) (q : Part) : Type 0 where
   to : (room : ℕ) (rest : List ℕ) → length ns ≤ room → reached p room (bs ++ rest) ≡ length bs + reached q (room - length ns) rest
   numbers : (room : ℕ) (rest : List ℕ) → length ns ≤ room → found p room (bs ++ rest) ≡ ns ++ found q (room - length ns) rest
 
+-- no bytes, one byte that fits, and some bytes with others after them
 leads-none : (p : Part) → Leads p [] [] p
 leads-none p = record {
   to = λ room rest h. let e : room - 0 ≡ room = omega arith in rw e (omega arith);
@@ -79,6 +75,7 @@ module _ (p : Part) (d : ℕ) (outside : p .comment ≡ false) (one : d < 10) wh
       let next : after p (digit d) ≡ number n = after-digit p (digit d) outside is-one ∙ ap number more in
       rw (ended-none p (digit d) no-end, next) at (leads-byte p (digit d) fit)
 
+-- the digits of a number
 leads-spell : (k n : ℕ) → n < 2 ^ 32 → n < 10 ^ suc k → Leads (apart false) (spell (suc k) n) [] (number n)
 unfolding apart number
 leads-spell zero n small h =
