@@ -1,0 +1,6 @@
+-- Laws of reading numbers from a text, and of places in it.
+pub mod Steps
+pub mod Texts
+pub mod Reading
+pub mod Written
+pub mod Places
