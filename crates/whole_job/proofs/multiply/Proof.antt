@@ -1,0 +1,40 @@
+-- `whole_job::multiply` meets its contract.
+use mathlib.Core.Path.{sym}
+use native.Mathlib.Omega.{arith}
+use lib.Seq.{length-take-le}
+use borrow.Author.Needs.{needs}
+use Rattle.whole_job.proofs.multiply.Statement.{statement}
+use Rattle.whole_job.proofs.multiply.Tie as tie
+
+block-room-requires : tie.Need-block-room-requires
+block-room-requires c κs = search needs
+
+block-size-requires : tie.Need-block-size-requires
+block-size-requires c κs = search needs
+
+array-borrow-prefix-product : tie.Need-array-borrow-prefix-product
+array-borrow-prefix-product c = search needs
+
+slice-aggregate-multiply-by : tie.Need-slice-aggregate-multiply-by
+slice-aggregate-multiply-by c = sym (length-take-le _ _ (omega arith))
+
+multiply-by-requires : tie.Need-multiply-by-requires
+multiply-by-requires c κs = search needs
+
+same-length : tie.Need-same-length
+same-length c = search needs
+
+returns : tie.Need-returns
+returns c = search needs
+
+pub multiply-spec : {M : Type 1} → statement M
+multiply-spec =
+    tie.close
+    (tie.spec
+    block-room-requires
+    block-size-requires
+    array-borrow-prefix-product
+    slice-aggregate-multiply-by
+    multiply-by-requires
+    same-length
+    returns)
