@@ -148,7 +148,7 @@ fn list(line: &[u8]) {
 }
 
 // Writes the numbers of a job as a line, and prints its plan.
-fn say_plan_by(numbers: &[u32], line: &mut [u8])
+fn list_job(numbers: &[u32], line: &mut [u8])
     requires { ⌜ 10 ≤ length (now numbers) ⌝ }
 {
     let length = put_job(numbers, line);
@@ -161,7 +161,7 @@ fn say_plan(numbers: &[u32])
     requires { ⌜ 10 ≤ length (now numbers) ⌝ }
 {
     let mut line = io::buffer();
-    say_plan_by(numbers, &mut line);
+    list_job(numbers, &mut line);
 }
 
 // ---- sharing
@@ -264,7 +264,7 @@ fn element_room() -> [u32; MOST_ELEMENTS]
 }
 
 // Writes a block's message, and reads it at the other end.
-fn send_by(h: Header, xs: &[u32], bytes: &mut [u8], out: &mut [u32]) -> u32 {
+fn write_and_read(h: Header, xs: &[u32], bytes: &mut [u8], out: &mut [u32]) -> u32 {
     let number = message::write_message(h, xs, bytes);
     if number != 0 {
         return number;
@@ -279,11 +279,11 @@ fn send_by(h: Header, xs: &[u32], bytes: &mut [u8], out: &mut [u32]) -> u32 {
 fn send(h: Header, xs: &[u32], out: &mut [u32]) -> u32 {
     let mut bytes = message_room();
     let n = 16 + 4 * least(xs.len(), MOST_BLOCK);
-    send_by(h, xs, &mut bytes[..n], out)
+    write_and_read(h, xs, &mut bytes[..n], out)
 }
 
 // Multiplies two shares, and writes the answer's message.
-fn multiply_by(
+fn write_product(
     job: Job,
     plan: Plan,
     host: u32,
@@ -312,7 +312,7 @@ fn multiply_by(
 fn multiply(job: Job, plan: Plan, host: u32, a: &[u32], b: &[u32], message: &mut [u8]) -> u32 {
     let mut product = block_room();
     let n = block_size(plan.rows, plan.columns);
-    multiply_by(job, plan, host, a, b, &mut product[..n], message)
+    write_product(job, plan, host, a, b, &mut product[..n], message)
 }
 
 // What a host does: gets both shares as messages, multiplies them and writes its answer's message.
@@ -601,7 +601,7 @@ fn say_both(modulus: u32, q: u32, columns: u32, table: &[u32]) {
 }
 
 // Decodes the table and prints it, or the number of the refusal.
-fn decode_by(job: Job, q: u32, points: &[u32], heard: u64, store: &[u32], table: &mut [u32]) {
+fn decode_into(job: Job, q: u32, points: &[u32], heard: u64, store: &[u32], table: &mut [u32]) {
     let number = decode::decode(job, points, heard, store, table);
     if number != 0 {
         return say_refused(number);
@@ -613,13 +613,13 @@ fn decode_by(job: Job, q: u32, points: &[u32], heard: u64, store: &[u32], table:
 fn say_table(job: Job, q: u32, points: &[u32], heard: u64, store: &[u32]) {
     let mut table = element_room();
     let n = least(area(job.t, job.r), MOST_ELEMENTS);
-    decode_by(job, q, points, heard, store, &mut table[..n]);
+    decode_into(job, q, points, heard, store, &mut table[..n]);
 }
 
 // ---- a job
 
 // Hears the hosts into a store, and decodes.
-fn finish_by(
+fn hear_and_decode(
     job: Job,
     plan: Plan,
     points: &[u32],
@@ -639,7 +639,7 @@ fn finish(job: Job, plan: Plan, points: &[u32], order: &[u32], shares_a: &[u32],
     let mut store = element_room();
     let size = block_size(plan.rows, plan.columns);
     let room = least(blocks(job.hosts, size), MOST_ELEMENTS);
-    finish_by(
+    hear_and_decode(
         job,
         plan,
         points,

@@ -21,11 +21,11 @@ least-requires c κs = search needs
 array-borrow-prefix-store : tie.Need-array-borrow-prefix-store
 array-borrow-prefix-store c = search needs
 
-slice-aggregate-finish-by : tie.Need-slice-aggregate-finish-by
-slice-aggregate-finish-by c = sym (length-take-le _ _ (omega arith))
+slice-aggregate-hear-and-decode : tie.Need-slice-aggregate-hear-and-decode
+slice-aggregate-hear-and-decode c = sym (length-take-le _ _ (omega arith))
 
-finish-by-requires : tie.Need-finish-by-requires
-finish-by-requires c κs = search needs
+hear-and-decode-requires : tie.Need-hear-and-decode-requires
+hear-and-decode-requires c κs = search needs
 
 returns : tie.Need-returns
 returns c = search needs
@@ -39,6 +39,6 @@ finish-spec =
     blocks-requires
     least-requires
     array-borrow-prefix-store
-    slice-aggregate-finish-by
-    finish-by-requires
+    slice-aggregate-hear-and-decode
+    hear-and-decode-requires
     returns)

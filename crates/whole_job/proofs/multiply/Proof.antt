@@ -15,11 +15,11 @@ block-size-requires c κs = search needs
 array-borrow-prefix-product : tie.Need-array-borrow-prefix-product
 array-borrow-prefix-product c = search needs
 
-slice-aggregate-multiply-by : tie.Need-slice-aggregate-multiply-by
-slice-aggregate-multiply-by c = sym (length-take-le _ _ (omega arith))
+slice-aggregate-write-product : tie.Need-slice-aggregate-write-product
+slice-aggregate-write-product c = sym (length-take-le _ _ (omega arith))
 
-multiply-by-requires : tie.Need-multiply-by-requires
-multiply-by-requires c κs = search needs
+write-product-requires : tie.Need-write-product-requires
+write-product-requires c κs = search needs
 
 same-length : tie.Need-same-length
 same-length c = search needs
@@ -34,7 +34,7 @@ multiply-spec =
     block-room-requires
     block-size-requires
     array-borrow-prefix-product
-    slice-aggregate-multiply-by
-    multiply-by-requires
+    slice-aggregate-write-product
+    write-product-requires
     same-length
     returns)

@@ -18,11 +18,11 @@ least-requires c κs = search needs
 array-borrow-prefix-table : tie.Need-array-borrow-prefix-table
 array-borrow-prefix-table c = search needs
 
-slice-aggregate-decode-by : tie.Need-slice-aggregate-decode-by
-slice-aggregate-decode-by c = sym (length-take-le _ _ (omega arith))
+slice-aggregate-decode-into : tie.Need-slice-aggregate-decode-into
+slice-aggregate-decode-into c = sym (length-take-le _ _ (omega arith))
 
-decode-by-requires : tie.Need-decode-by-requires
-decode-by-requires c κs = search needs
+decode-into-requires : tie.Need-decode-into-requires
+decode-into-requires c κs = search needs
 
 returns : tie.Need-returns
 returns c = search needs
@@ -35,6 +35,6 @@ say-table-spec =
     area-requires
     least-requires
     array-borrow-prefix-table
-    slice-aggregate-decode-by
-    decode-by-requires
+    slice-aggregate-decode-into
+    decode-into-requires
     returns)

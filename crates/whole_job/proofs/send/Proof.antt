@@ -21,11 +21,11 @@ add-n c = search needs
 array-borrow-prefix-bytes : tie.Need-array-borrow-prefix-bytes
 array-borrow-prefix-bytes c = search needs
 
-slice-aggregate-send-by : tie.Need-slice-aggregate-send-by
-slice-aggregate-send-by c = sym (length-take-le _ _ (omega arith))
+slice-aggregate-write-and-read : tie.Need-slice-aggregate-write-and-read
+slice-aggregate-write-and-read c = sym (length-take-le _ _ (omega arith))
 
-send-by-requires : tie.Need-send-by-requires
-send-by-requires c κs = search needs
+write-and-read-requires : tie.Need-write-and-read-requires
+write-and-read-requires c κs = search needs
 
 same-length : tie.Need-same-length
 same-length c = search needs
@@ -42,7 +42,7 @@ send-spec =
     mul-n
     add-n
     array-borrow-prefix-bytes
-    slice-aggregate-send-by
-    send-by-requires
+    slice-aggregate-write-and-read
+    write-and-read-requires
     same-length
     returns)

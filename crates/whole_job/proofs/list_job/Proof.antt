@@ -1,10 +1,10 @@
--- `whole_job::say_plan_by` meets its contract.
+-- `whole_job::list_job` meets its contract.
 use mathlib.Core.Path.{sym}
 use native.Mathlib.Omega.{arith}
 use lib.Seq.{length-take-le}
 use borrow.Author.Needs.{needs}
-use Rattle.whole_job.proofs.say_plan_by.Statement.{statement}
-use Rattle.whole_job.proofs.say_plan_by.Tie as tie
+use Rattle.whole_job.proofs.list_job.Statement.{statement}
+use Rattle.whole_job.proofs.list_job.Tie as tie
 
 put-job-requires : tie.Need-put-job-requires
 put-job-requires c κs = search needs
@@ -27,8 +27,8 @@ same-length c = search needs
 returns : tie.Need-returns
 returns c = search needs
 
-pub say-plan-by-spec : {M : Type 1} → statement M
-say-plan-by-spec =
+pub list-job-spec : {M : Type 1} → statement M
+list-job-spec =
     tie.close
     (tie.spec
     put-job-requires
