@@ -49,6 +49,18 @@ fn decode_table<const Q: u32>(
     }
     let answers = &answers[..plan.layout.needed as usize];
     let weights = weights::<Q>(job, plan, answers);
+    write_table::<Q>(job, plan, answers, &weights, table);
+    Ok(())
+}
+
+/// Writes the table: in each of its blocks, the sum of the answers, each times its weight there.
+fn write_table<const Q: u32>(
+    job: &Job,
+    plan: &Plan,
+    answers: &[(u32, &[u32])],
+    weights: &[u32],
+    table: &mut [u32],
+) {
     let (down, across) = (job.m as usize, job.n as usize);
     let columns = plan.columns;
     let mut sums = vec![0; columns];
@@ -58,16 +70,12 @@ fn decode_table<const Q: u32>(
             let weights = weights.chunks_exact(down * across);
             sums.fill(0);
             for (weights, (_, answer)) in weights.zip(answers) {
-                add_row(
-                    &mut sums,
-                    weights[k * across + j],
-                    &answer[i * columns..][..columns],
-                );
+                let part = &answer[i * columns..][..columns];
+                add_row(&mut sums, weights[k * across + j], part);
             }
             reduce_row::<Q>(&sums, out);
         }
     }
-    Ok(())
 }
 
 /// The weights of each answer in the blocks of the table, answer by answer: the coefficients of the
