@@ -3,7 +3,7 @@
  *
  *   library     mukerihe_product of libhost.a, big-endian bytes in and out
  *   FLINT       nmod_mat_mul on matrices that are filled beforehand
- *   plain Rust  plain_product of plain_product.rs, the library's job and bytes
+ *   plain Rust  plain_product of docs/src/plain, the library's job and bytes
  *
  * A round times one call of each, and the order goes round. Reported are the medians, and the
  * fastest rounds, which a busy machine disturbs less.

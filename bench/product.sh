@@ -14,7 +14,7 @@ dpkg -s libflint-dev >/dev/null 2>&1 || apt-get install -y -qq libflint-dev
 room=$(mktemp -d)
 trap 'rm -rf "$room"' EXIT
 
-rustc --edition 2021 -D warnings --crate-type staticlib -C opt-level=3 bench/plain_product.rs -o "$room/libplain.a"
+rustc --edition 2021 -D warnings --crate-type staticlib -C opt-level=3 docs/src/plain/lib.rs -o "$room/libplain.a"
 gcc -std=gnu11 -O2 -Wall -Wextra -Werror -Iinclude bench/product.c "$library/libhost.a" "$room/libplain.a" \
     -lflint -lgmp -lpthread -ldl -lm -o "$room/product"
 

@@ -1,0 +1,153 @@
+//! The library and plain Rust give the same answers: random jobs, whole and with a fault put in.
+
+use crate::calls::{Calls, Plain};
+use crate::library::Library;
+use crate::random::Random;
+use crate::work::{header, prime, run, Room, Shape, Work};
+use plain::plan::Job;
+use plain::share::Matrix;
+
+/// How many jobs are run, and how many faults are put into each.
+const JOBS: u32 = 300;
+const FAULTS: u32 = 20;
+
+/// Runs random jobs by both, and calls with faults; stops where two answers differ.
+pub fn check() {
+    let mut random = Random::new(1);
+    for _ in 0..JOBS {
+        let modulus = random.within(1, 3);
+        let work = draw(&mut random, modulus);
+        let room = whole(&work);
+        for _ in 0..FAULTS {
+            let (mut work, mut room) = (work.clone(), room.clone());
+            spoil(&mut random, &mut work, &mut room);
+            same_calls(&mut random, &work, &room);
+        }
+    }
+}
+
+/// A random job.
+fn draw(random: &mut Random, modulus: u32) -> Work {
+    loop {
+        let shape = Shape {
+            cuts: [0; 3].map(|_| random.within(1, 3)),
+            group: random.within(1, 3),
+            hosts: random.within(3, prime(modulus).min(65) - 1),
+        };
+        let block = [0; 3].map(|_| random.within(1, 9));
+        if let Some(work) = Work::new(random, modulus, shape, block) {
+            return work;
+        }
+    }
+}
+
+/// Runs a whole job by both: both have its table.
+fn whole(work: &Work) -> Room {
+    let (mut room, mut other) = (Room::new(work), Room::new(work));
+    assert_eq!(run(&Library, work, &mut room), Ok(()));
+    assert_eq!(run(&Plain, work, &mut other), Ok(()));
+    assert!(room == other, "two whole jobs differ");
+    assert!(
+        room.table == work.true_table(),
+        "the table is not A times B"
+    );
+    room
+}
+
+/// Puts one fault into a job or its buffers.
+fn spoil(random: &mut Random, work: &mut Work, room: &mut Room) {
+    let q = prime(work.job.modulus);
+    let message = &mut room.answer_message;
+    match random.index(10) {
+        0 => spoil_number(random, &mut work.job),
+        1 => {
+            let place = random.index(work.points.len());
+            work.points[place] = [0, q, 1, 2][random.index(4)];
+        }
+        2 => work.points.push(random.within(1, q)),
+        3 => room.heard = random.draw() >> random.index(64),
+        4 => spoil_list(random, q, &mut work.a),
+        5 => spoil_list(random, q, &mut work.a_masks),
+        6 => spoil_list(random, q, &mut room.store),
+        7 => spoil_list(random, q, &mut room.shares[0]),
+        8 => message.truncate(random.index(message.len())),
+        _ => {
+            let place = [random.index(16), random.index(message.len())][random.index(2)];
+            message[place] = random.byte() % 8;
+        }
+    }
+}
+
+/// Sets one of a job's numbers anew.
+fn spoil_number(random: &mut Random, job: &mut Job) {
+    let value = [random.within(0, 20), random.word()][random.index(2)];
+    let numbers = [
+        &mut job.modulus,
+        &mut job.t,
+        &mut job.s,
+        &mut job.r,
+        &mut job.m,
+        &mut job.p,
+        &mut job.n,
+        &mut job.xa,
+        &mut job.xb,
+        &mut job.hosts,
+        &mut job.number,
+    ];
+    let place = random.index(numbers.len());
+    *numbers.into_iter().nth(place).expect("a number") = value;
+}
+
+/// Sets an element of a list to the prime.
+fn spoil_list(random: &mut Random, q: u32, elements: &mut [u32]) {
+    elements[random.index(elements.len())] = q;
+}
+
+/// Makes a call by both on a copy of its output; both have the same answer and output.
+fn same<T: PartialEq, O: PartialEq + Clone>(
+    name: &str,
+    output: &O,
+    call: impl Fn(&dyn Calls, &mut O) -> T,
+) {
+    let (mut first, mut second) = (output.clone(), output.clone());
+    let answers = (call(&Library, &mut first), call(&Plain, &mut second));
+    assert!(
+        answers.0 == answers.1 && first == second,
+        "{name}: two answers differ"
+    );
+}
+
+/// Makes every call by both.
+fn same_calls(random: &mut Random, work: &Work, room: &Room) {
+    let Work { job, points, .. } = work;
+    let host = random.within(0, job.hosts.min(70) + 1);
+    let sizes = work.block;
+    same("plan", &(), |calls, _| calls.plan(job, points));
+    same("share of A", &room.shares[0], |calls, out| {
+        calls.share(Matrix::A, job, points, host, &work.a, &work.a_masks, out)
+    });
+    same("share of B", &room.shares[1], |calls, out| {
+        calls.share(Matrix::B, job, points, host, &work.b, &work.b_masks, out)
+    });
+    same("product", &room.answer, |calls, out| {
+        calls.product(job.modulus, sizes, &room.shares[0], &room.shares[1], out)
+    });
+    same("product of bytes", &room.answer_bytes, |calls, out| {
+        let [a, b] = [0, 1].map(|i| &room.messages[i][16..]);
+        calls.product_of_bytes(job.modulus, sizes, a, b, out)
+    });
+    let fields = header(job, random.within(0, 4), host, sizes[0], sizes[1]);
+    same("write", &room.messages[0], |calls, out| {
+        calls.write(&fields, &room.shares[0], out)
+    });
+    same("read", &room.blocks[0], |calls, out| {
+        calls.read(&room.answer_message, out)
+    });
+    let heard = [room.heard, 0][random.index(2)];
+    same("arrival", &room.store, |calls, store| {
+        calls.arrive(job, points, heard, store, &room.answer_message)
+    });
+    same("decoding", &room.table, |calls, table| {
+        calls.decode(job, points, room.heard, &room.store, table)
+    });
+}

@@ -1,0 +1,141 @@
+//! The calls of a job, by the library and in plain Rust.
+
+use plain::arrival::arrive;
+use plain::decode::decode;
+use plain::message::{read_message, write_message, Header};
+use plain::plan::{plan, Job};
+use plain::product::{product, product_of_bytes};
+use plain::share::{share, Matrix};
+
+/// What a call answers: done, or the number of the refusal.
+pub type Answer = Result<(), u32>;
+
+/// One who makes the calls.
+pub trait Calls {
+    fn plan(&self, job: &Job, points: &[u32]) -> Result<u32, u32>;
+
+    fn share(
+        &self,
+        matrix: Matrix,
+        job: &Job,
+        points: &[u32],
+        host: u32,
+        elements: &[u32],
+        masks: &[u32],
+        out: &mut [u32],
+    ) -> Answer;
+
+    fn product(
+        &self,
+        modulus: u32,
+        sizes: [u32; 3],
+        a: &[u32],
+        b: &[u32],
+        out: &mut [u32],
+    ) -> Answer;
+
+    fn product_of_bytes(
+        &self,
+        modulus: u32,
+        sizes: [u32; 3],
+        a: &[u8],
+        b: &[u8],
+        out: &mut [u8],
+    ) -> Answer;
+
+    fn write(&self, header: &Header, elements: &[u32], out: &mut [u8]) -> Answer;
+
+    fn read(&self, message: &[u8], out: &mut [u32]) -> Answer;
+
+    fn arrive(
+        &self,
+        job: &Job,
+        points: &[u32],
+        heard: u64,
+        store: &mut [u32],
+        message: &[u8],
+    ) -> Result<u64, u32>;
+
+    fn decode(
+        &self,
+        job: &Job,
+        points: &[u32],
+        heard: u64,
+        store: &[u32],
+        table: &mut [u32],
+    ) -> Answer;
+}
+
+/// The calls in plain Rust.
+pub struct Plain;
+
+impl Calls for Plain {
+    fn plan(&self, job: &Job, points: &[u32]) -> Result<u32, u32> {
+        plan(job, points).map(|plan| plan.layout.needed)
+    }
+
+    fn share(
+        &self,
+        matrix: Matrix,
+        job: &Job,
+        points: &[u32],
+        host: u32,
+        elements: &[u32],
+        masks: &[u32],
+        out: &mut [u32],
+    ) -> Answer {
+        share(matrix, job, points, host, elements, masks, out)
+    }
+
+    fn product(
+        &self,
+        modulus: u32,
+        sizes: [u32; 3],
+        a: &[u32],
+        b: &[u32],
+        out: &mut [u32],
+    ) -> Answer {
+        product(modulus, sizes, a, b, out)
+    }
+
+    fn product_of_bytes(
+        &self,
+        modulus: u32,
+        sizes: [u32; 3],
+        a: &[u8],
+        b: &[u8],
+        out: &mut [u8],
+    ) -> Answer {
+        product_of_bytes(modulus, sizes, a, b, out)
+    }
+
+    fn write(&self, header: &Header, elements: &[u32], out: &mut [u8]) -> Answer {
+        write_message(header, elements, out)
+    }
+
+    fn read(&self, message: &[u8], out: &mut [u32]) -> Answer {
+        read_message(message, out).map(|_| ())
+    }
+
+    fn arrive(
+        &self,
+        job: &Job,
+        points: &[u32],
+        heard: u64,
+        store: &mut [u32],
+        message: &[u8],
+    ) -> Result<u64, u32> {
+        arrive(job, points, heard, store, message)
+    }
+
+    fn decode(
+        &self,
+        job: &Job,
+        points: &[u32],
+        heard: u64,
+        store: &[u32],
+        table: &mut [u32],
+    ) -> Answer {
+        decode(job, points, heard, store, table)
+    }
+}

@@ -1,0 +1,35 @@
+//! Every stage of a job, by the library and in plain Rust, timed by turns. Prints tables of medians and
+//! of their ratios; with the word `once` the times of one process.
+//!
+//!   calls     the calls of a job, and plain Rust's
+//!   library   the library's calls
+//!   work      a job, and how it goes from the plan to the table
+//!   agree     both give the same answers, refused calls too
+//!   stage     one stage made by both
+//!   race      two contestants timed by turns
+//!   cases     what is timed
+//!   report    the tables
+//!
+//! Link it with libstages.a, libhost.a and the plain Rust program of docs/src/plain.
+
+mod agree;
+mod calls;
+mod cases;
+mod library;
+mod race;
+#[allow(dead_code)]
+#[path = "../../docs/src/random.rs"]
+mod random;
+mod report;
+mod stage;
+mod work;
+
+/// Times the stages once, or checks that both agree and prints the tables.
+fn main() {
+    if std::env::args().nth(1).as_deref() == Some("once") {
+        report::print_times();
+    } else {
+        agree::check();
+        report::print_tables();
+    }
+}

@@ -1,0 +1,109 @@
+//! The tables. Every case is timed in several processes, so that the addresses of buffers, which change
+//! from process to process, decide nothing.
+
+use crate::cases::{every_stage, growth, Case, Row, Table};
+use crate::race::Times;
+use crate::random::Random;
+use crate::stage::{measure, Stage};
+use crate::work::{prime, Work};
+use std::process::Command;
+
+/// How many processes time the cases.
+const PROCESSES: usize = 5;
+
+/// The times of a case, process by process.
+type Runs = Vec<Times>;
+
+/// All cases with their stages, in the order of the tables.
+fn all_cases() -> Vec<(Stage, Case)> {
+    let grown = growth().into_iter().flat_map(|table| table.rows);
+    let rows = every_stage().into_iter().chain(grown);
+    rows.flat_map(|row| row.cases.into_iter().map(move |case| (row.stage, case)))
+        .collect()
+}
+
+/// Times every case and prints its times, a line a case.
+pub fn print_times() {
+    for (stage, case) in all_cases() {
+        let mut random = Random::new(u64::from(case.modulus));
+        let work = Work::new(&mut random, case.modulus, case.shape, case.block);
+        let times = measure(stage, &work.expect("the job is planned"));
+        let [library, plain] = [times.library, times.plain];
+        println!("{} {} {} {}", library[0], library[1], plain[0], plain[1]);
+    }
+}
+
+/// The times that another process prints.
+fn times_of_a_process() -> Vec<Times> {
+    let program = std::env::current_exe().expect("this program has a path");
+    let output = Command::new(program).arg("once").output();
+    let output = output.expect("the program is run again");
+    assert!(output.status.success(), "the program failed");
+    let text = String::from_utf8(output.stdout).expect("the times are text");
+    text.lines().map(times_of_line).collect()
+}
+
+/// The times in a line.
+fn times_of_line(line: &str) -> Times {
+    let mut numbers = line
+        .split(' ')
+        .map(|word| word.parse().expect("a time is a number"));
+    let mut next = || numbers.next().expect("a line has four times");
+    Times {
+        library: [next(), next()],
+        plain: [next(), next()],
+    }
+}
+
+/// The smallest, the median and the largest of some numbers.
+fn spread(numbers: impl Iterator<Item = f64>) -> [f64; 3] {
+    let mut numbers: Vec<f64> = numbers.collect();
+    numbers.sort_by(f64::total_cmp);
+    let last = numbers.len() - 1;
+    [numbers[0], numbers[last / 2], numbers[last]]
+}
+
+/// Prints the tables.
+pub fn print_tables() {
+    let processes: Vec<Vec<Times>> = (0..PROCESSES).map(|_| times_of_a_process()).collect();
+    let mut cases = (0..processes[0].len()).map(|i| processes.iter().map(|run| run[i]).collect());
+    println!("\nEvery stage of a 64 × 64 job\n");
+    println!("| stage | q | library | plain Rust | ratio | lowest, highest | of fastest |");
+    println!("|---|---|---|---|---|---|---|");
+    for row in every_stage() {
+        print_line(&row, &cases.next().expect("a case has its times"));
+    }
+    for table in growth() {
+        print_growth(&table, &mut cases);
+    }
+}
+
+/// Prints the line of a stage of one job: the fastest times of both, the ratio of the medians with its
+/// lowest and highest, and the ratio of the fastest rounds.
+fn print_line(row: &Row, runs: &Runs) {
+    let [library, ..] = spread(runs.iter().map(|times| times.library[1]));
+    let [plain, ..] = spread(runs.iter().map(|times| times.plain[1]));
+    let [low, ratio, high] = spread(runs.iter().map(|t| t.library[0] / t.plain[0]));
+    let [_, fastest, _] = spread(runs.iter().map(|t| t.library[1] / t.plain[1]));
+    let (name, q) = (row.stage.name(), prime(row.cases[0].modulus));
+    println!(
+        "| {name} | {q} | {library:.2} | {plain:.2} | {ratio:.2} | {low:.2}, {high:.2} | {fastest:.2} |"
+    );
+}
+
+/// Prints a table of growth: in each place the library's fastest time, and the ratio of the medians.
+fn print_growth(table: &Table, cases: &mut impl Iterator<Item = Runs>) {
+    println!("\n{}\n", table.title);
+    println!("| stage | q | {} |", table.columns.join(" | "));
+    println!("|---|---|{}", "---|".repeat(table.columns.len()));
+    for row in &table.rows {
+        print!("| {} | {} |", row.stage.name(), prime(row.cases[0].modulus));
+        for _ in &row.cases {
+            let runs = cases.next().expect("a case has its times");
+            let [library, ..] = spread(runs.iter().map(|times| times.library[1]));
+            let [_, ratio, _] = spread(runs.iter().map(|t| t.library[0] / t.plain[0]));
+            print!(" {library:.2} ({ratio:.2}) |");
+        }
+        println!();
+    }
+}

@@ -1,0 +1,2 @@
+-- The stages of a job as functions for C.
+pub mod Stages
