@@ -5,6 +5,8 @@
 --   both                      a conjunction from its parts
 --   or-left, or-right         the parts of a disjunction that failed
 --   or-all                    the three parts of one
+--   or-true, or-false         a disjunction whose second part is known
+--   or-assoc                  three parts, in either order of joining
 --   neither                   a disjunction that is negated
 --   not-leb                   a comparison that is negated
 --   equal                     two numbers that passed the test of being equal
@@ -44,6 +46,18 @@ pub or-all : (a b c : Bool) → (a || b || c) ≡ false → (a ≡ false) × (b 
 or-all a b c e =
     let two = or-left (a || b) c e in
     (or-left a b two, or-right a b two, or-right (a || b) c e)
+
+pub or-true : (a b : Bool) → b ≡ true → (a || b) ≡ true
+or-true true b e = refl
+or-true false b e = e
+
+pub or-false : (a b : Bool) → b ≡ false → (a || b) ≡ a
+or-false true b e = refl
+or-false false b e = e
+
+pub or-assoc : (a b c : Bool) → (a || b || c) ≡ (a || (b || c))
+or-assoc true b c = refl
+or-assoc false b c = refl
 
 pub equal : (a b : ℕ) → not (eqb a b) ≡ false → a ≡ b
 equal a b e = eqb-true a b (not-false (eqb a b) e)

@@ -1,6 +1,7 @@
 -- Laws of the points' tests, point by point.
 --
---   member-at, member-none      a number stands among the first n, or still does not
+--   member-at                   a number stands among the first n
+--   member-more                 it does among one more
 --   points-numbered             every row has a number
 --   pass-point                  the tests of the points up to i pass, and so do those of i
 --   stop-point                  they pass up to i, and one of i tells a number
@@ -16,13 +17,10 @@ use native.Mathlib.Omega.{arith}
 use lib.Dec.{T, eqb}
 use lib.ListN.{length, getD, take}
 use borrow.Author.Tests.{eq-eqb, ne-eqb}
+use Rattle.algebra.proofs.Tests.{or-true, or-false, or-assoc}
 use Rattle.refusal.specs.Chain.{first}
 use Rattle.refusal.proofs.Chains.{first-hit, first-miss, numbered, numbered-append, first-append, first-append-hit}
 use Rattle.plan.specs.Planning.{member, pointRows, pointsRows, pointTests}
-
-or-true : (a b : Bool) → b ≡ true → (a || b) ≡ true
-or-true true b e = refl
-or-true false b e = e
 
 pub member-at : (xs : List ℕ) (n i x : ℕ) → i < n → i < length xs → getD xs i 0 ≡ x → member x (take n xs) ≡ true
 unfolding member
@@ -32,16 +30,13 @@ member-at (y ∷ ys) (suc n) zero x hn hl e = ap (λ (b : Bool). b || member x (
 member-at (y ∷ ys) (suc n) (suc i) x hn hl e =
     or-true (eqb x y) (member x (take n ys)) (member-at ys n i x (le-of-suc-le-suc hn) (le-of-suc-le-suc hl) e)
 
-pub member-none : (xs : List ℕ) (i x : ℕ) → i < length xs → member x (take i xs) ≡ false → (getD xs i 0 ≡ x → ⊥) → member x (take (suc i) xs) ≡ false
+pub member-more : (xs : List ℕ) (i x : ℕ) → i < length xs → member x (take (suc i) xs) ≡ (member x (take i xs) || eqb x (getD xs i 0))
 unfolding member
-member-none [] i x h e ne = absurd (not-suc-le-zero h)
-member-none (y ∷ ys) zero x h e ne = ap (λ (b : Bool). b || false) (ne-eqb x y (λ s. ne (sym s)))
-member-none (y ∷ ys) (suc i) x h e ne = go (eqb x y) e (λ k. member-none ys i x (le-of-suc-le-suc h) k ne)
-  where
-    go : (b : Bool) → (b || member x (take i ys)) ≡ false → (member x (take i ys) ≡ false → member x (take (suc i) ys) ≡ false)
-        → (b || member x (take (suc i) ys)) ≡ false
-    go true e ih = e
-    go false e ih = ih e
+member-more [] i x h = absurd (not-suc-le-zero h)
+member-more (y ∷ ys) zero x h = or-false (eqb x y) false refl
+member-more (y ∷ ys) (suc i) x h =
+    ap (λ (b : Bool). eqb x y || b) (member-more ys i x (le-of-suc-le-suc h))
+    ∙ sym (or-assoc (eqb x y) (member x (take i ys)) (eqb x (getD ys i 0)))
 
 module _ (q : ℕ) (points : List ℕ) where
   pub points-numbered : (n : ℕ) → T (numbered (pointsRows q points n))

@@ -150,19 +150,18 @@ fn fit_refusal(job: Job, q: u32, needed: u32) -> u32
     0
 }
 
-// Whether x stands among the first n of the points.
+// Whether x stands among the first n of the points. The loop has no early end, so that several points can be compared at once.
 fn stands_before(points: &[u32], n: usize, x: u32) -> bool
     requires { ⌜ n ≤ length (now points) ⌝ }
     ensures { λ r. ⌜ r ≡ member x (take n (now (points .entry))) ⌝ }
 {
+    let mut found = false;
     let mut i = 0;
     while i < n {
-        if points[i] == x {
-            return true;
-        }
+        found = either(found, x == points[i]);
         i += 1;
     }
-    false
+    found
 }
 
 // Tests 9 to 11: the points, one by one.

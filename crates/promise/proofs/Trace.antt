@@ -17,7 +17,7 @@ use lib.Dec.{eqb}
 use lib.ListN.{length, getD}
 use borrow.Author.Tests.{eqb-true, eqb-false, eq-eqb}
 use Rattle.algebra.specs.Lists.{AllBelow}
-use Rattle.algebra.proofs.Tests.{by-test}
+use Rattle.algebra.proofs.Tests.{by-test, or-true, or-false, or-assoc}
 use Rattle.refusal.specs.Chain.{first, answer}
 use Rattle.refusal.proofs.Chains.{first-none, first-hit, first-miss, first-append, first-append-hit}
 use Rattle.plan.specs.Planning.{prime}
@@ -30,19 +30,7 @@ use Rattle.promise.specs.Demand3.{Task, Accepted, Call, arrival, decodin
 use Rattle.promise.proofs.Fits.{core, fit-core, arrival-core, core-numbered, FitMessage, fit-message}
 use Rattle.promise.proofs.Blocks.{length-with, block-own, block-other}
 
--- a disjunction by its second part, and a conjunction
-or-true : (a b : Bool) → b ≡ true → (a || b) ≡ true
-or-true true b e = refl
-or-true false b e = e
-
-or-false : (a b : Bool) → b ≡ false → (a || b) ≡ a
-or-false true b e = refl
-or-false false b e = e
-
-or-assoc : (a b c : Bool) → (a || b || c) ≡ (a || (b || c))
-or-assoc true b c = refl
-or-assoc false b c = refl
-
+-- conjunctions
 both-true : {a b : Bool} → a ≡ true → b ≡ true → (a && b) ≡ true
 both-true {a} {b} e f = ap (λ (t : Bool). t && b) e ∙ f
 
