@@ -34,8 +34,19 @@ fn add_two_rows(sums: &mut [u64], weight: u32, row: &[u32], second: u32, next: &
     }
 }
 
-// Adds to the sums each weight times its row, two at a time where that can be. The rows lie in the source, each a stride after
-// the one before.
+// Adds two weights times their rows, in one pass where both rows are as long as the sums.
+pub fn add_pair(sums: &mut [u64], weight: u32, row: &[u32], second: u32, next: &[u32])
+    ensures { λ _. ⌜ now (sums .exit) ≡ plus (plus (now (sums .entry)) weight (now (row .entry))) second (now (next .entry)) ⌝ }
+{
+    if either(row.len() < sums.len(), next.len() < sums.len()) {
+        add_row(sums, weight, row);
+        add_row(sums, second, next);
+    } else {
+        add_two_rows(sums, weight, row, second, next);
+    }
+}
+
+// Adds to the sums each weight times its row, two at a time. The rows lie in the source, each a stride after the one before.
 pub fn add_rows(sums: &mut [u64], weights: &[u32], source: &[u32], stride: usize)
     ensures { λ _. ⌜ now (sums .exit) ≡ added (now (sums .entry)) (now (weights .entry)) (now (source .entry)) stride ⌝ }
 {
@@ -44,12 +55,12 @@ pub fn add_rows(sums: &mut [u64], weights: &[u32], source: &[u32], stride: usize
     while i < weights.len() {
         let step = least(stride, rest.len());
         let next = &rest[step..];
-        if either(weights.len() - i < 2, next.len() < sums.len()) {
+        if weights.len() - i < 2 {
             add_row(sums, weights[i], rest);
             rest = next;
             i += 1;
         } else {
-            add_two_rows(sums, weights[i], rest, weights[i + 1], next);
+            add_pair(sums, weights[i], rest, weights[i + 1], next);
             let step = least(stride, next.len());
             rest = &next[step..];
             i += 2;

@@ -1,12 +1,9 @@
 -- `rows::add_rows` meets its contract.
-use mathlib.Core.Path.{_≡_, refl, sym, ap, _∙_}
+use mathlib.Core.Path.{_≡_, refl, ap, _∙_}
 use Prim.Native.Nat.{ℕ, _+_, _-_, _*_, _≤_}
 use native.Mathlib.Omega.{arith}
 use borrow.Author.Needs.{needs}
-use borrow.Author.Tests.{ltb-false}
-use lib.Dec.{ltb}
-use lib.ListN.{length, getD, take, drop, length-take, length-drop}
-use Rattle.algebra.proofs.Tests.{or-left, or-right}
+use lib.ListN.{length, getD, take, drop}
 use Rattle.rows.specs.Combination.{plus}
 use Rattle.rows.proofs.Steps.{upTo, length-up-to, up-to-none, up-to-more, up-to-all, rest-more, rest-short}
 use Rattle.rows.proofs.add_rows.Statement.{statement}
@@ -51,11 +48,8 @@ part-next-start c = omega arith
 part-next-end : tie.Need-part-next-end Inv-loop μ-loop
 part-next-end c = omega arith
 
-sub-either : tie.Need-sub-either Inv-loop μ-loop
-sub-either c = omega arith
-
-either-requires : tie.Need-either-requires Inv-loop μ-loop
-either-requires c κs = search needs
+sub-if1 : tie.Need-sub-if1 Inv-loop μ-loop
+sub-if1 c = omega arith
 
 mul-add-row : tie.Need-mul-add-row Inv-loop μ-loop
 mul-add-row c = omega arith
@@ -83,7 +77,7 @@ next-row c =
 
 loop-again : tie.Need-loop-again Inv-loop μ-loop
 loop-again c =
-    let k = c .before .before .before .before .before .before .before .before in
+    let k = c .before .before .before .before .before .before .before in
     let l = k .before .before .loop in
     let a = k .before .before .before .before .before .before .args in
     let added = c .before .before .add-row in
@@ -96,39 +90,23 @@ loop-again c =
       few = omega arith;
     }
 
--- there are two more weights, and the next row is as long as the sums
-two-more : (c : tie.Else1 Inv-loop μ-loop)
-    → (2 ≤ length (c .before .before .before .before .before .before .before .before .before .args .weights .now) - c .before .before .before .before .before .loop .i)
-    × (length (c .before .before .before .before .before .loop .sums) ≤ length (take (length (c .before .before .before .before .before .loop .rest .now) - c .before .before .before .least .result) (drop (c .before .before .before .least .result) (c .before .before .before .before .before .loop .rest .now))))
-two-more c =
-    let l = c .before .before .before .before .before .loop in
-    let step = c .before .before .before .least .result in
-    let few = ltb (length (c .before .before .before .before .before .before .before .before .before .args .weights .now) - l .i) 2 in
-    let thin = ltb (length (take (length (l .rest .now) - step) (drop step (l .rest .now)))) (length (l .sums)) in
-    let e = sym (c .before .either .ensures) ∙ c .if1 .left in
-    (ltb-false _ _ (or-left few thin e), ltb-false _ _ (or-right few thin e))
+mul-add-pair : tie.Need-mul-add-pair Inv-loop μ-loop
+mul-add-pair c = omega arith
 
-mul-add-two-rows : tie.Need-mul-add-two-rows Inv-loop μ-loop
-mul-add-two-rows c = omega arith
+shared-slice-read-add-pair : tie.Need-shared-slice-read-add-pair Inv-loop μ-loop
+shared-slice-read-add-pair c = omega arith
 
-shared-slice-read-add-two-rows : tie.Need-shared-slice-read-add-two-rows Inv-loop μ-loop
-shared-slice-read-add-two-rows c = omega arith
+add-add-pair : tie.Need-add-add-pair Inv-loop μ-loop
+add-add-pair c = omega arith
 
-add-add-two-rows : tie.Need-add-add-two-rows Inv-loop μ-loop
-add-add-two-rows c = omega arith
+mul-add-pair-2 : tie.Need-mul-add-pair-2 Inv-loop μ-loop
+mul-add-pair-2 c = omega arith
 
-mul-add-two-rows-2 : tie.Need-mul-add-two-rows-2 Inv-loop μ-loop
-mul-add-two-rows-2 c = omega arith
+shared-slice-read-add-pair-2 : tie.Need-shared-slice-read-add-pair-2 Inv-loop μ-loop
+shared-slice-read-add-pair-2 c = omega arith
 
-shared-slice-read-add-two-rows-2 : tie.Need-shared-slice-read-add-two-rows-2 Inv-loop μ-loop
-shared-slice-read-add-two-rows-2 c = let m = two-more (c .before .before .before) in omega arith
-
-add-two-rows-requires : tie.Need-add-two-rows-requires Inv-loop μ-loop
-add-two-rows-requires c κs =
-    let k = c .before .before .before .before .before .before in
-    let rest = k .before .before .loop .rest .now in
-    let m = two-more (c .before .before .before) in
-    (omega (arith, length-take (length rest - k .least .result) (drop (k .least .result) rest), length-drop (k .least .result) rest), m .1)
+add-pair-requires : tie.Need-add-pair-requires Inv-loop μ-loop
+add-pair-requires c κs = search needs
 
 least-requires-2 : tie.Need-least-requires-2 Inv-loop μ-loop
 least-requires-2 c κs = search needs
@@ -153,21 +131,20 @@ loop-less-2 c = omega arith
 
 loop-again-2 : tie.Need-loop-again-2 Inv-loop μ-loop
 loop-again-2 c =
-    let el = c .before .before .before .before .before .before .before .before in
-    let k = el .before .before .before in
+    let pair = c .before .before .before .before in
+    let k = pair .before .before .before .before .before .before in
     let l = k .before .before .loop in
     let a = k .before .before .before .before .before .before .args in
-    let added = c .before .before .before .before .add-two-rows in
     let next = take (length (l .rest .now) - k .least .result) (drop (k .least .result) (l .rest .now)) in
     let once = up-to-more (a .sums .now) (a .weights .now) (a .source .now) (a .stride) (l .sums) (l .rest .now) (plus (l .sums) (getD (a .weights .now) (l .i) 0) (l .rest .now)) (l .i) (l .inv .is) (l .inv .row) refl in
-    let twice = up-to-more (a .sums .now) (a .weights .now) (a .source .now) (a .stride) (plus (l .sums) (getD (a .weights .now) (l .i) 0) (l .rest .now)) next (added .last .0) (l .i + 1) once (next-row k) (added .ensures) in
+    let twice = up-to-more (a .sums .now) (a .weights .now) (a .source .now) (a .stride) (plus (l .sums) (getD (a .weights .now) (l .i) 0) (l .rest .now)) next (pair .add-pair .last .0) (l .i + 1) once (next-row k) (pair .add-pair .ensures) in
     let row = rest-more (a .source .now) next (l .i + 1) (a .stride) (c .before .least2 .result) (next-row k) (c .before .least2 .ensures) in
     let two : l .i + 1 + 1 ≡ l .i + 2 = omega arith in
     record {
       is = twice ∙ ap (upTo (a .sums .now) (a .weights .now) (a .source .now) (a .stride)) two;
       row = row ∙ ap (λ (n : ℕ). drop (n * a .stride) (a .source .now)) two;
       short = rest-short (a .source .now) _ (l .i + 1 + 1) (a .stride) row;
-      few = let m = two-more el in omega arith;
+      few = omega arith;
     }
 
 same-length : tie.Need-same-length Inv-loop μ-loop
@@ -197,20 +174,19 @@ add-rows-spec =
     sub-next
     part-next-start
     part-next-end
-    sub-either
-    either-requires
+    sub-if1
     mul-add-row
     shared-slice-read-add-row
     add-row-requires
     add-i
     loop-less
     loop-again
-    mul-add-two-rows
-    shared-slice-read-add-two-rows
-    add-add-two-rows
-    mul-add-two-rows-2
-    shared-slice-read-add-two-rows-2
-    add-two-rows-requires
+    mul-add-pair
+    shared-slice-read-add-pair
+    add-add-pair
+    mul-add-pair-2
+    shared-slice-read-add-pair-2
+    add-pair-requires
     least-requires-2
     mul-rest
     sub-rest
