@@ -1,4 +1,8 @@
 //! Stories of whole jobs: true products in random order, with refused calls and decodings between.
+//!
+//!   told         all stories
+//!   small_line   a random plan with few hosts
+//!   draw_points  points of some kind
 
 use crate::draw::draw_in_layout;
 use crate::job_call::{Act, JobCall};
@@ -65,6 +69,13 @@ fn small_jobs(random: &mut Random) -> Vec<JobCall> {
 
 /// A random job with at most 16 hosts; the round decides on modulus, layout and the kind of points.
 fn draw_small(random: &mut Random, round: u32) -> WholeJob {
+    let line = small_line(random, round);
+    let points = draw_points(random, line, round / 6);
+    WholeJob::drawn(random, line, points)
+}
+
+/// A random plan with at most 16 hosts; the round decides on modulus and layout.
+pub fn small_line(random: &mut Random, round: u32) -> Line {
     let modulus = round % 3 + 1;
     let most = if modulus == 1 { 12 } else { 16 };
     let mut line = draw_in_layout(random, round / 3 % 2 == 0, |needed| needed <= most);
@@ -75,12 +86,11 @@ fn draw_small(random: &mut Random, round: u32) -> WholeJob {
     for size in &mut line[1..4] {
         *size *= random.within(1, largest);
     }
-    let points = draw_points(random, line, round / 6);
-    WholeJob::drawn(random, line, points)
+    line
 }
 
 /// Points of a job: 1..N, the highest downwards, a run from anywhere, and scattered ones.
-fn draw_points(random: &mut Random, line: Line, kind: u32) -> Vec<u32> {
+pub fn draw_points(random: &mut Random, line: Line, kind: u32) -> Vec<u32> {
     let (hosts, q) = (line[9], prime(line[0]).expect("a modulus number"));
     let first = random.within(1, q - hosts);
     match kind % 6 {

@@ -189,7 +189,7 @@ pub fn damaged(random: &mut Random, lines: &[Vec<u8>]) -> Vec<Vec<u8>> {
 }
 
 /// A line with one byte changed by chance; half the new bytes are ones that a line has.
-fn damage(random: &mut Random, mut line: Vec<u8>) -> Vec<u8> {
+pub fn damage(random: &mut Random, mut line: Vec<u8>) -> Vec<u8> {
     let at = random.index(line.len());
     let usual = b"0123456789 \n"[random.index(12)];
     let byte = if random.within(0, 1) == 0 {

@@ -37,6 +37,16 @@
 //!   decode_calls    cases of decodings by themselves
 //!   jobs            the file format of these cases and answers
 //!   job_cases       the subcommand `jobs`: all of them, checked and written
+//!
+//!   text_numbers    the numbers of a plain text
+//!   texts           what the program of a whole job must print for a text
+//!   job_text        a job as a text, and what must be printed by a shorter way
+//!   text_jobs       texts of jobs that are carried out
+//!   text_forms      texts of all forms and lengths
+//!   text_faults     texts with a fault
+//!   text_refusals   texts of jobs that are refused or too large
+//!   text_short      texts that end too soon, and texts changed by chance
+//!   text_cases      the subcommand `texts`: all of them, checked and written
 
 mod arrival;
 mod arrival_calls;
@@ -52,6 +62,7 @@ mod job_call;
 mod job_cases;
 mod job_faults;
 mod job_stories;
+mod job_text;
 mod jobs;
 mod lister;
 mod lister_cases;
@@ -68,6 +79,14 @@ mod random;
 mod share;
 mod share_calls;
 mod story;
+mod text_cases;
+mod text_faults;
+mod text_forms;
+mod text_jobs;
+mod text_numbers;
+mod text_refusals;
+mod text_short;
+mod texts;
 mod whole_job;
 
 /// Picks the subject named on the command line.
@@ -78,8 +97,10 @@ fn main() {
         ["lister", stdin_file, stdout_file] => lister_cases::write(stdin_file, stdout_file),
         ["calls", stdin_file, stdout_file] => call_cases::write_files(stdin_file, stdout_file),
         ["jobs", stdin_file, stdout_file] => job_cases::write_files(stdin_file, stdout_file),
+        ["texts", folder] => text_cases::write_folder(folder),
         _ => {
             eprintln!("usage: reference lister|calls|jobs STDIN_FILE STDOUT_FILE");
+            eprintln!("       reference texts FOLDER");
             std::process::exit(2);
         }
     }

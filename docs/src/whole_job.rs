@@ -3,6 +3,8 @@
 //!   Contents   a matrix with its masks
 //!   WholeJob   a job that the plan accepts, with all that comes of it
 //!   written    the message of given fields and elements
+//!   sharing    the call that makes a host's share
+//!   plain      A times B, straight from the matrices
 
 use crate::job_call::{answer_length, Act, JobCall};
 use crate::lister::Line;
@@ -13,14 +15,15 @@ use crate::random::Random;
 use crate::share::{share, Shape, Sharing, Side};
 
 /// A matrix with its masks.
+#[derive(Clone)]
 pub struct Contents {
     pub matrix: Vec<u32>,
     pub masks: Vec<u32>,
 }
 
 impl Contents {
-    /// Random contents of a side.
-    fn drawn(random: &mut Random, side: Side, job: &Job, q: u32) -> Contents {
+    /// Random contents of a side, all below q.
+    pub fn drawn(random: &mut Random, side: Side, job: &Job, q: u32) -> Contents {
         let shape = Shape::of(side, job);
         Contents {
             matrix: random.elements(shape.matrix_length(), q),
@@ -116,20 +119,24 @@ pub fn written(fields: &Fields, elements: &[u32]) -> Vec<u8> {
     write(&writing).expect("a fit message")
 }
 
+/// The call that makes a host's share of a side with these contents.
+pub fn sharing(job: &Job, points: &[u32], side: Side, contents: &Contents, host: u32) -> Sharing {
+    Sharing {
+        side,
+        job: *job,
+        job_number: 0,
+        host,
+        points: points.to_vec(),
+        matrix: contents.matrix.clone(),
+        masks: contents.masks.clone(),
+        room: Shape::of(side, job).block_length(),
+    }
+}
+
 /// A host's true product: its A share times its B share.
 fn answer(job: &Job, points: &[u32], sides: &[Contents; 2], host: u32) -> Vec<u32> {
     let [a, b] = [(Side::A, &sides[0]), (Side::B, &sides[1])].map(|(side, contents)| {
-        let sharing = Sharing {
-            side,
-            job: *job,
-            job_number: 0,
-            host,
-            points: points.to_vec(),
-            matrix: contents.matrix.clone(),
-            masks: contents.masks.clone(),
-            room: Shape::of(side, job).block_length(),
-        };
-        share(&sharing).expect("a fit share")
+        share(&sharing(job, points, side, contents, host)).expect("a fit share")
     });
     let multiplying = Multiplying {
         modulus: job.modulus,
@@ -145,7 +152,7 @@ fn answer(job: &Job, points: &[u32], sides: &[Contents; 2], host: u32) -> Vec<u3
 
 /// A times B over the field, straight from the matrices: at most 16384 products of at most 2^32
 /// each, so a sum fits 64 bits.
-fn plain(job: &Job, sides: &[Contents; 2], q: u32) -> Vec<u32> {
+pub fn plain(job: &Job, sides: &[Contents; 2], q: u32) -> Vec<u32> {
     let [t, s, r] = [job.t, job.s, job.r].map(|size| size as usize);
     let [a, b] = [&sides[0].matrix, &sides[1].matrix];
     let entry = |row: usize, column: usize| {

@@ -1,0 +1,33 @@
+#!/usr/bin/env bash
+# Runs the program of a whole job on all texts of the separate Rust program, and compares what it prints.
+#
+#   tests/whole_job.sh PROGRAM REFERENCE    PROGRAM is the built whole_job, REFERENCE the Rust program of docs/src
+#
+# It prints one line and ends with 0 where all is as expected. At the first difference it shows it and ends with 1.
+set -euo pipefail
+
+[ $# -eq 2 ] || { echo "usage: tests/whole_job.sh PROGRAM REFERENCE" >&2; exit 2; }
+program=$1
+reference=$2
+
+room=$(mktemp -d)
+trap 'rm -rf "$room"' EXIT
+
+# Tells what is wrong with a text, the beginning of the text, and what differs: < is expected, > is printed.
+differs() {
+    echo "whole_job: text $1 $2; it begins:"
+    head -c 400 "$room/$1.in" | cat -v
+    echo
+    diff --text "$room/$1.out" "$room/printed" | head -n 20 | cut -c 1-200 || true
+    exit 1
+} >&2
+
+"$reference" texts "$room" >"$room/report"
+texts=0
+for text in "$room"/*.in; do
+    name=$(basename "$text" .in)
+    "$program" <"$text" >"$room/printed" || differs "$name" "ends with $?"
+    cmp -s "$room/printed" "$room/$name.out" || differs "$name" "has another answer"
+    texts=$((texts + 1))
+done
+echo "whole_job: $texts texts, all as expected"
