@@ -2,7 +2,7 @@
 ghost use mathlib.Core.Path.{_≡_};
 ghost use mathlib.Core.List.{map};
 ghost use Prim.Native.Nat.{_+_, _*_, _%_, _^_, _<_, _≤_};
-ghost use lib.ListN.{length, getD};
+ghost use lib.ListN.{length, getD, drop};
 ghost use Rattle.algebra.specs.Lists.{tab, grid, AllBelow};
 ghost use Rattle.refusal.specs.Chain.{first};
 ghost use Rattle.field.specs.Modulus.{prime};
@@ -155,8 +155,17 @@ fn decoding_weights(plan: Plan, points: &[u32], weights: &mut [u32])
     }
 }
 
-// Adds to the sums the rows of the answers at some places, each times its weight. The weights lie a step apart, the answers a
-// size.
+// The answer at a place, and all that lies behind it.
+fn answer_at(source: &[u32], place: u32, size: usize) -> &[u32]
+    requires { ⌜ place * size ≤ length (now source) ⌝ }
+    ensures { λ r. ⌜ now r ≡ drop (place * size) (now (source .entry)) ⌝ }
+{
+    let start = place as usize * size;
+    &source[start..]
+}
+
+// Adds to the sums the rows of the answers at some places, each times its weight, two at a time. The weights lie a step apart,
+// the answers a size.
 fn add_answers(
     sums: &mut [u64],
     weights: &[u32],
@@ -171,10 +180,17 @@ fn add_answers(
 {
     let mut c = 0;
     while c < places.len() {
-        let at = c * step;
-        let start = places[c] as usize * size;
-        rows::add_row(sums, weights[at], &source[start..]);
-        c += 1;
+        let weight = weights[c * step];
+        let answer = answer_at(source, places[c], size);
+        if places.len() - c < 2 {
+            rows::add_row(sums, weight, answer);
+            c += 1;
+        } else {
+            let second = weights[c * step + step];
+            let next = answer_at(source, places[c + 1], size);
+            rows::add_pair(sums, weight, answer, second, next);
+            c += 2;
+        }
     }
 }
 

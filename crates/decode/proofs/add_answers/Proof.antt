@@ -1,7 +1,7 @@
 -- `decode::add_answers` meets its contract.
-use mathlib.Core.Path.{_≡_, ap, _∙_}
+use mathlib.Core.Path.{_≡_, refl, ap, _∙_}
 use mathlib.Core.List.{List}
-use Prim.Native.Nat.{ℕ, _-_, _*_, _<_, _≤_}
+use Prim.Native.Nat.{ℕ, _+_, _-_, _*_, _<_, _≤_}
 use native.Mathlib.Omega.{arith}
 use borrow.Author.Needs.{needs}
 use lib.ListN.{length, getD, drop}
@@ -9,7 +9,7 @@ use lib.Seq.{getD-drop}
 use Rattle.algebra.specs.Lists.{entry}
 use Rattle.rows.specs.Combination.{plus}
 use Rattle.decode.specs.Weights.{answerTerms}
-use Rattle.decode.proofs.Pieces.{sumsTo, length-sums, sums-none, sums-more, rest-is}
+use Rattle.decode.proofs.Pieces.{sumsTo, length-sums, sums-none, sums-more}
 use Rattle.decode.proofs.add_answers.Statement.{statement}
 use Rattle.decode.proofs.add_answers.Tie as tie
 
@@ -29,46 +29,51 @@ loop-holds c =
     let s = c .before .before .before in
     record { is = sums-none (s .before .args .sums .now) _ (λ v l. s .slice-known .given v .fits); short = omega arith }
 
--- the next weight and the next answer are there
-there : (c : tie.In-loop Inv-loop μ-loop)
-    → (c .before .loop .c * c .before .before .before .before .before .before .args .step < length (c .before .before .before .before .before .before .args .weights .now))
-    × (getD (c .before .before .before .before .before .before .args .places .now) (c .before .loop .c) 0 * c .before .before .before .before .before .before .args .size ≤ length (c .before .before .before .before .before .before .args .source .now))
-there c =
-    let e = c .before .before .before .before .before .before in
-    (e .pre .weight (c .before .loop .c) (c .loop-test .taken), e .pre .answer (c .before .loop .c) (c .loop-test .taken))
+-- where the call starts
+abbrev start : tie.In-loop Inv-loop μ-loop → tie.Start Inv-loop μ-loop
+start c = c .before .before .before .before .before .before
 
-mul-at : tie.Need-mul-at Inv-loop μ-loop
-mul-at c = let t = there c in omega arith
+-- the weight and the answer at place number k are there
+there : (c : tie.In-loop Inv-loop μ-loop) (k : ℕ) → k < length (start c .args .places .now)
+    → (k * start c .args .step < length (start c .args .weights .now))
+    × (getD (start c .args .places .now) k 0 * start c .args .size ≤ length (start c .args .source .now))
+there c k l = (start c .pre .weight k l, start c .pre .answer k l)
 
-mul-start : tie.Need-mul-start Inv-loop μ-loop
-mul-start c = omega arith
+-- one more answer is added
+one-more : (c : tie.In-loop Inv-loop μ-loop) (k : ℕ) (now answer : List ℕ)
+    → now ≡ sumsTo (start c .args .sums .now) (term (start c .args .weights .now) (start c .args .step) (start c .args .places .now) (start c .args .source .now) (start c .args .size)) k
+    → answer ≡ drop (getD (start c .args .places .now) k 0 * start c .args .size) (start c .args .source .now)
+    → plus now (getD (start c .args .weights .now) (k * start c .args .step) 0) answer
+    ≡ sumsTo (start c .args .sums .now) (term (start c .args .weights .now) (start c .args .step) (start c .args .places .now) (start c .args .source .now) (start c .args .size)) (k + 1)
+unfolding entry
+one-more c k now answer is e =
+    let a = start c .args in
+    let at = getD (a .places .now) k 0 * a .size in
+    let weight = getD (a .weights .now) (k * a .step) 0 in
+    ap (plus now weight) e
+    ∙ sums-more (a .sums .now) (term (a .weights .now) (a .step) (a .places .now) (a .source .now) (a .size)) now (drop at (a .source .now)) weight k is
+    (λ v. ap (λ (x : ℕ). weight * x) (getD-drop at (a .source .now) v 0))
 
-shared-slice-read-start : tie.Need-shared-slice-read-start Inv-loop μ-loop
-shared-slice-read-start c = omega arith
+mul-weight : tie.Need-mul-weight Inv-loop μ-loop
+mul-weight c = let t = there c (c .before .loop .c) (omega arith) in omega arith
 
-cast-start : tie.Need-cast-start Inv-loop μ-loop
-cast-start c = omega (arith, c .shared-slice-known4 .given (c .before .before .loop .c))
+mul-weight-2 : tie.Need-mul-weight-2 Inv-loop μ-loop
+mul-weight-2 c = let t = there c (c .before .loop .c) (omega arith) in omega arith
 
-mul-start-2 : tie.Need-mul-start-2 Inv-loop μ-loop
-mul-start-2 c = let t = there (c .before) in omega arith
+shared-slice-read-weight : tie.Need-shared-slice-read-weight Inv-loop μ-loop
+shared-slice-read-weight c = let t = there (c .before) (c .before .before .loop .c) (omega arith) in omega arith
 
-mul-add-row : tie.Need-mul-add-row Inv-loop μ-loop
-mul-add-row c = let t = there (c .before .before) in omega arith
+mul-answer-at : tie.Need-mul-answer-at Inv-loop μ-loop
+mul-answer-at c = omega arith
 
-shared-slice-read-add-row : tie.Need-shared-slice-read-add-row Inv-loop μ-loop
-shared-slice-read-add-row c = let t = there (c .before .before .before) in omega arith
+shared-slice-read-answer-at : tie.Need-shared-slice-read-answer-at Inv-loop μ-loop
+shared-slice-read-answer-at c = omega arith
 
-mul-add-row-2 : tie.Need-mul-add-row-2 Inv-loop μ-loop
-mul-add-row-2 c = let t = there (c .before .before .before) in omega arith
+answer-at-requires : tie.Need-answer-at-requires Inv-loop μ-loop
+answer-at-requires c κs = there (c .before .before) (c .before .before .before .loop .c) (omega arith) .1
 
-sub-add-row : tie.Need-sub-add-row Inv-loop μ-loop
-sub-add-row c = let t = there (c .before .before .before) in omega arith
-
-part-add-row-start : tie.Need-part-add-row-start Inv-loop μ-loop
-part-add-row-start c = let t = there (c .before .before .before) in omega arith
-
-part-add-row-end : tie.Need-part-add-row-end Inv-loop μ-loop
-part-add-row-end c = let t = there (c .before .before .before) in omega arith
+sub-if1 : tie.Need-sub-if1 Inv-loop μ-loop
+sub-if1 c = omega arith
 
 add-row-requires : tie.Need-add-row-requires Inv-loop μ-loop
 add-row-requires c κs = search needs
@@ -80,19 +85,76 @@ loop-less : tie.Need-loop-less Inv-loop μ-loop
 loop-less c = omega arith
 
 loop-again : tie.Need-loop-again Inv-loop μ-loop
-unfolding entry
 loop-again c =
-    let l = c .before .before .before .before .before .before .before .before in
-    let a = l .before .before .before .before .before .args in
-    let k = l .loop .c in
-    let start = getD (a .places .now) k 0 * a .size in
+    let first = c .before .before .before .before .before in
+    let i = first .before .before .before in
+    let l = i .before .loop in
+    record { is = c .before .before .add-row .ensures ∙ one-more i (l .c) (l .sums) _ (l .inv .is) (first .answer-at .ensures); short = omega arith }
+
+-- the next weight and the next answer are there
+next-there : (e : tie.Else1 Inv-loop μ-loop)
+    → let i = e .before .before .before .before in
+    (i .before .loop .c * start i .args .step + start i .args .step < length (start i .args .weights .now))
+    × (getD (start i .args .places .now) (i .before .loop .c + 1) 0 * start i .args .size ≤ length (start i .args .source .now))
+next-there e =
+    let i = e .before .before .before .before in
+    let t = there i (i .before .loop .c + 1) (omega arith) in
+    (omega arith, t .1)
+
+mul-second : tie.Need-mul-second Inv-loop μ-loop
+mul-second c = let t = next-there c in omega arith
+
+add-second : tie.Need-add-second Inv-loop μ-loop
+add-second c = let t = next-there c in omega arith
+
+mul-second-2 : tie.Need-mul-second-2 Inv-loop μ-loop
+mul-second-2 c = let t = next-there c in omega arith
+
+shared-slice-read-second : tie.Need-shared-slice-read-second Inv-loop μ-loop
+shared-slice-read-second c = let t = next-there (c .before) in omega arith
+
+add-answer-at : tie.Need-add-answer-at Inv-loop μ-loop
+add-answer-at c = omega arith
+
+mul-answer-at-2 : tie.Need-mul-answer-at-2 Inv-loop μ-loop
+mul-answer-at-2 c = omega arith
+
+shared-slice-read-answer-at-2 : tie.Need-shared-slice-read-answer-at-2 Inv-loop μ-loop
+shared-slice-read-answer-at-2 c = omega arith
+
+answer-at-requires-2 : tie.Need-answer-at-requires-2 Inv-loop μ-loop
+answer-at-requires-2 c κs = next-there (c .before .before) .1
+
+add-pair-requires : tie.Need-add-pair-requires Inv-loop μ-loop
+add-pair-requires c κs = search needs
+
+add-c-2 : tie.Need-add-c-2 Inv-loop μ-loop
+add-c-2 c = omega arith
+
+loop-less-2 : tie.Need-loop-less-2 Inv-loop μ-loop
+loop-less-2 c = omega arith
+
+loop-again-2 : tie.Need-loop-again-2 Inv-loop μ-loop
+loop-again-2 c =
+    let pair = c .before .before in
+    let second = pair .before .before in
+    let first = second .before .before .before .before in
+    let i = first .before .before .before in
+    let a = start i .args in
+    let l = i .before .loop in
     let f = term (a .weights .now) (a .step) (a .places .now) (a .source .now) (a .size) in
+    let answer = first .answer-at .result .now in
+    let next = second .answer-at2 .result .now in
+    let once = one-more i (l .c) (l .sums) answer (l .inv .is) (first .answer-at .ensures) in
+    let twice = one-more i (l .c + 1) (plus (l .sums) (getD (a .weights .now) (l .c * a .step) 0) answer) next once (second .answer-at2 .ensures) in
+    let at : l .c * a .step + a .step ≡ (l .c + 1) * a .step = omega arith in
+    let two : l .c + 1 + 1 ≡ l .c + 2 = omega arith in
     record {
       is =
-          c .before .before .add-row .ensures
-          ∙ ap (plus (l .loop .sums) (getD (a .weights .now) (k * a .step) 0)) (rest-is (a .source .now) start)
-          ∙ sums-more (a .sums .now) f (l .loop .sums) (drop start (a .source .now)) (getD (a .weights .now) (k * a .step) 0) k (l .loop .inv .is)
-          (λ v. ap (λ (x : ℕ). getD (a .weights .now) (k * a .step) 0 * x) (getD-drop start (a .source .now) v 0));
+          pair .add-pair .ensures
+          ∙ ap (λ (k : ℕ). plus (plus (l .sums) (getD (a .weights .now) (l .c * a .step) 0) answer) (getD (a .weights .now) k 0) next) at
+          ∙ twice
+          ∙ ap (sumsTo (a .sums .now) f) two;
       short = omega arith;
     }
 
@@ -117,20 +179,28 @@ add-answers-spec =
     Inv-loop
     μ-loop
     loop-holds
-    mul-at
-    mul-start
-    shared-slice-read-start
-    cast-start
-    mul-start-2
-    mul-add-row
-    shared-slice-read-add-row
-    mul-add-row-2
-    sub-add-row
-    part-add-row-start
-    part-add-row-end
+    mul-weight
+    mul-weight-2
+    shared-slice-read-weight
+    mul-answer-at
+    shared-slice-read-answer-at
+    answer-at-requires
+    sub-if1
     add-row-requires
     add-c
     loop-less
     loop-again
+    mul-second
+    add-second
+    mul-second-2
+    shared-slice-read-second
+    add-answer-at
+    mul-answer-at-2
+    shared-slice-read-answer-at-2
+    answer-at-requires-2
+    add-pair-requires
+    add-c-2
+    loop-less-2
+    loop-again-2
     same-length
     returns)
