@@ -650,14 +650,12 @@ fn finish(job: Job, plan: Plan, points: &[u32], order: &[u32], shares_a: &[u32],
     );
 }
 
-// The table, or the blocks of all hosts together, are too large for this program.
+// The blocks of all hosts together are too large for this program. A table is no larger than its blocks for all hosts.
 fn too_large(job: Job, plan: Plan) -> bool {
     let hosts = job.hosts;
-    let a = blocks(hosts, area(plan.rows, plan.inner));
-    let b = blocks(hosts, area(plan.inner, plan.columns));
-    let c = blocks(hosts, area(plan.rows, plan.columns));
-    let table = area(job.t, job.r);
-    MOST_ELEMENTS < table || MOST_ELEMENTS < a || MOST_ELEMENTS < b || MOST_ELEMENTS < c
+    MOST_ELEMENTS < blocks(hosts, area(plan.rows, plan.inner))
+        || MOST_ELEMENTS < blocks(hosts, area(plan.inner, plan.columns))
+        || MOST_ELEMENTS < blocks(hosts, area(plan.rows, plan.columns))
 }
 
 // Shares B for all hosts and goes on, or prints the number of the refusal. The rest has B's masks and the order.

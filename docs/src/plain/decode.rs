@@ -92,7 +92,7 @@ fn weights<const Q: u32>(job: &Job, plan: &Plan, answers: &[(u32, &[u32])]) -> V
     let mut weights = Vec::with_capacity(points.len() * places.len());
     for &x in &points {
         divide_by_root::<Q>(&product, x, &mut quotient);
-        let scale = inverse::<Q>(product_of_differences::<Q>(x, &points));
+        let scale = scale_of::<Q>(x, &points);
         weights.extend(places.iter().map(|&e| multiply::<Q>(scale, quotient[e])));
     }
     weights
@@ -121,10 +121,10 @@ fn divide_by_root<const Q: u32>(polynomial: &[u32], x: u32, quotient: &mut [u32]
     }
 }
 
-/// The product of x less each other point.
-fn product_of_differences<const Q: u32>(x: u32, points: &[u32]) -> u32 {
+/// The product of the inverses of x less each other point.
+fn scale_of<const Q: u32>(x: u32, points: &[u32]) -> u32 {
     points
         .iter()
         .filter(|&&other| other != x)
-        .fold(1, |product, &other| multiply::<Q>(product, x + Q - other))
+        .fold(1, |scale, &other| multiply::<Q>(scale, inverse::<Q>(x + Q - other)))
 }
