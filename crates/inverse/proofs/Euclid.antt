@@ -22,6 +22,7 @@ unfoldable pub with-sign : (q : ℕ) (minus : Bool) (factor : ℕ) → ℕ
 with-sign q true factor = q - factor
 with-sign q false factor = factor
 
+-- the balance keeps the sizes at most q; past the first step the last size is not 0
 pub record Euclid (q a last next last-factor next-factor : ℕ) (minus : Bool) : Type 0 where
   pub falls : next < last
   pub within : last + last-factor ≤ q
@@ -49,37 +50,30 @@ step-leaves : (q a : ℕ) (minus : Bool) (last-factor next-factor quotient next 
     → ⟨ q ⟩ a * with-sign q (not minus) next-factor ≈ next
     → ⟨ q ⟩ a * with-sign q (not (not minus)) (last-factor + quotient * next-factor) ≈ rest
 unfolding with-sign
-step-leaves q a true last-factor next-factor quotient next rest small new-small l n =
+step-leaves q a true last-factor next-factor quotient next rest next-small new-small l n =
     let less : q - last-factor ≡ q - (last-factor + quotient * next-factor) + quotient * next-factor = omega arith in
     ≈-by (≈-add l (≈-scale quotient (≈-sym n))) (omega (arith, ap (λ (k : ℕ). a * k) less))
-step-leaves q a false last-factor next-factor quotient next rest small new-small l n =
+step-leaves q a false last-factor next-factor quotient next rest next-small new-small l n =
     let back : q - next-factor + next-factor ≡ q = omega arith in
     ≈-by (≈-add (≈-add l (≈-scale quotient (≈-sym n))) (≈-multiple (quotient * a))) (omega (arith, ap (λ (k : ℕ). quotient * a * k) back))
 
 module _ {q a last next last-factor next-factor : ℕ} {minus : Bool} (pos : 0 < next) (e : Euclid q a last next last-factor next-factor minus) where
-  quotient : ℕ
-  quotient = last / next
-
-  whole : next * quotient + last % next ≡ last
-  unfolding quotient
+  whole : next * (last / next) + last % next ≡ last
   whole = div-add-mod last next
 
-  some : 0 < quotient
-  unfolding quotient
+  some : 0 < last / next
   some = omega (arith, div-eq-sub-div pos (le-of-lt (e .falls)))
 
   new-within : next + next-factor ≤ q
   new-within = omega (arith, mul-le-mul-right next-factor (e .falls), mul-le-mul-left next (e .positive))
 
   new-balance : next * (last-factor + last / next * next-factor) + last % next * next-factor ≡ q
-  unfolding quotient
   new-balance = omega (arith, ap (λ (k : ℕ). k * next-factor) whole)
 
   pub euclid-below : last-factor + last / next * next-factor ≤ q
   euclid-below = omega (arith, new-balance, mul-le-mul-right (last-factor + last / next * next-factor) pos)
 
   pub euclid-step : Euclid q a next (last % next) next-factor (last-factor + last / next * next-factor) (not minus)
-  unfolding quotient
   euclid-step = record {
     falls = mod-lt last pos;
     within = new-within;
@@ -88,7 +82,7 @@ module _ {q a last next last-factor next-factor : ℕ} {minus : Bool} (pos : 0 <
     balance = new-balance;
     last-leaves = e .next-leaves;
     next-leaves =
-        step-leaves q a minus last-factor next-factor quotient next (last % next) (omega (arith, new-within)) euclid-below
+        step-leaves q a minus last-factor next-factor (last / next) next (last % next) (omega (arith, new-within)) euclid-below
         (≈-trans (e .last-leaves) (≈-of-eq (sym whole)))
         (e .next-leaves);
   }

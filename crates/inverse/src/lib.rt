@@ -14,10 +14,11 @@ pub fn inverse_of(modulus: Modulus, a: u32) -> u32
     if next == 0 {
         return 0;
     }
-    // The sizes of the remainders' factors. Their signs alternate: a times a factor, with its sign, leaves the remainder.
+    // Sizes of factors: a times a remainder's factor, with its sign, leaves the remainder.
+    // The signs alternate, and minus says whether the last factor is negative.
     let mut last_factor = 0;
     let mut next_factor = 1;
-    let mut minus = true; // whether the last factor is negative
+    let mut minus = true;
     let factor = loop {
         if next == 0 {
             break last_factor;

@@ -34,7 +34,8 @@ small-q c = subst (λ (k : ℕ). k < 2 ^ 31) (sym (c .prime-of .ensures)) (prime
 returns : tie.Need-returns Inv-loop μ-loop
 returns c =
     let a = c .before .before .before .args in
-    sym (inverse-of-zero (prime-prime (a .modulus)) (a .a) (record { same = sym (c .before .reduce .ensures) ∙ c .if1 .taken ∙ sym (zero-mod (prime (a .modulus))) }))
+    sym (inverse-of-zero (prime-prime (a .modulus)) (a .a)
+    (record { same = sym (c .before .reduce .ensures) ∙ c .if1 .taken ∙ sym (zero-mod (prime (a .modulus))) }))
 
 loop-holds : tie.Need-loop-holds Inv-loop μ-loop
 loop-holds c =
