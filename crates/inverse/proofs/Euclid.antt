@@ -1,91 +1,109 @@
--- Euclid's remainders of a prime q and a number a, each with a factor: a times the factor leaves the remainder.
+-- Euclid's remainders of a prime q and a number a, each with a factor: a times the factor, with its sign, leaves the remainder.
+-- The factors' sizes stay at most q, and their signs alternate.
 --
---   Euclid          two remainders that follow one another, with their factors
+--   with-sign       a factor of a size and a sign, modulo q
+--   Euclid          two remainders that follow one another, with their factors' sizes, and whether the first factor is negative
 --   euclid-start    q and a
+--   euclid-below    the next size is at most q
 --   euclid-step     the next remainder
 --   euclid-end      past the last remainder stands the inverse
-use mathlib.Core.Path.{_≡_, sym, ap, subst}
+use mathlib.Core.Path.{_≡_, sym, ap, _∙_, subst}
+use mathlib.Core.Bool.{Bool, true, false, not}
 use mathlib.Core.Logic.{⊎-elim}
-use Prim.Native.Nat.{ℕ, _+_, _-_, _*_, _/_, _%_, _<_, _≤_, _∣_}
-use native.Mathlib.Nat.{mod-lt, div-add-mod, dvd-zero, dvd-refl, dvd-add, dvd-mul-right-of-dvd, le-of-dvd, mod-eq-zero-of-dvd, mul-zero, mul-one}
+use Prim.Native.Nat.{ℕ, _+_, _-_, _*_, _/_, _%_, _<_, _≤_}
+use native.Mathlib.Nat.{le-of-lt, mod-lt, div-add-mod, div-eq-sub-div, mul-pos, mul-le-mul-left, mul-le-mul-right, mul-mod-right, mul-one, sub-zero}
 use native.Mathlib.Omega.{arith}
 use Rattle.algebra.specs.Modular.{⟨_⟩_≈_, Prime, inverse}
 use Rattle.algebra.proofs.Orders.{le-or-lt}
 use Rattle.algebra.proofs.Modular.{≈-sym, ≈-trans, ≈-mod, ≈-add, ≈-scale, ≈-multiple, ≈-by, ≈-of-eq}
 use Rattle.algebra.proofs.Inverses.{inverse-unique}
 
-pub record Euclid (q a last next last-factor next-factor : ℕ) : Type 0 where
-  pub falls : next < last
-  pub within : last ≤ q
-  pub last-small : last-factor < q
-  pub next-small : next-factor < q
-  pub last-leaves : ⟨ q ⟩ a * last-factor ≈ last
-  pub next-leaves : ⟨ q ⟩ a * next-factor ≈ next
-  pub common : (d : ℕ) → d ∣ last → d ∣ next → (d ∣ q) × (d ∣ a % q)
+unfoldable pub with-sign : (q : ℕ) (minus : Bool) (factor : ℕ) → ℕ
+with-sign q true factor = q - factor
+with-sign q false factor = factor
 
-pub euclid-start : (q a : ℕ) → 1 < q → Euclid q a q (a % q) 0 1
-euclid-start q a h = record {
-  falls = mod-lt a (omega arith);
+-- the balance keeps the sizes at most q; past the first step the last size is not 0
+pub record Euclid (q a last next last-factor next-factor : ℕ) (minus : Bool) : Type 0 where
+  pub falls : next < last
+  pub within : last + last-factor ≤ q
+  pub moved : 0 < next + last-factor
+  pub positive : 0 < next-factor
+  pub balance : last * next-factor + next * last-factor ≡ q
+  pub last-leaves : ⟨ q ⟩ a * with-sign q minus last-factor ≈ last
+  pub next-leaves : ⟨ q ⟩ a * with-sign q (not minus) next-factor ≈ next
+
+pub euclid-start : (q a next : ℕ) → 1 < q → next ≡ a % q → (next ≡ 0 → ⊥) → Euclid q a q next 0 1 true
+unfolding with-sign
+euclid-start q a next h e ne = record {
+  falls = subst (λ (k : ℕ). k < q) (sym e) (mod-lt a (omega arith));
   within = omega arith;
-  last-small = omega arith;
-  next-small = h;
-  last-leaves = ≈-by (≈-sym (≈-multiple {q = q} 1)) (omega (arith, mul-zero a));
-  next-leaves = ≈-trans (≈-of-eq (mul-one a)) (≈-sym (≈-mod a));
-  common = λ d hq ha. (hq, ha);
+  moved = omega arith;
+  positive = omega arith;
+  balance = omega arith;
+  last-leaves = ≈-by (≈-trans (≈-multiple {q = q} a) (≈-sym (≈-multiple {q = q} 1))) (omega (arith, ap (λ (k : ℕ). a * k) (sub-zero q)));
+  next-leaves = ≈-trans (≈-of-eq (mul-one a)) (≈-trans (≈-sym (≈-mod a)) (≈-of-eq (sym e)));
 }
 
--- the factor of the next remainder
-unfoldable pub new-factor : ℕ → ℕ → ℕ → ℕ → ℕ
-new-factor q quotient last-factor next-factor = (last-factor + (q - quotient * next-factor % q)) % q
+-- what a times the new factor leaves
+step-leaves : (q a : ℕ) (minus : Bool) (last-factor next-factor quotient next rest : ℕ) → next-factor ≤ q → last-factor + quotient * next-factor ≤ q
+    → ⟨ q ⟩ a * with-sign q minus last-factor ≈ next * quotient + rest
+    → ⟨ q ⟩ a * with-sign q (not minus) next-factor ≈ next
+    → ⟨ q ⟩ a * with-sign q (not (not minus)) (last-factor + quotient * next-factor) ≈ rest
+unfolding with-sign
+step-leaves q a true last-factor next-factor quotient next rest next-small new-small l n =
+    let less : q - last-factor ≡ q - (last-factor + quotient * next-factor) + quotient * next-factor = omega arith in
+    ≈-by (≈-add l (≈-scale quotient (≈-sym n))) (omega (arith, ap (λ (k : ℕ). a * k) less))
+step-leaves q a false last-factor next-factor quotient next rest next-small new-small l n =
+    let back : q - next-factor + next-factor ≡ q = omega arith in
+    ≈-by (≈-add (≈-add l (≈-scale quotient (≈-sym n))) (≈-multiple (quotient * a))) (omega (arith, ap (λ (k : ℕ). quotient * a * k) back))
 
-module _ {q a last next last-factor next-factor : ℕ} (one : 1 < q) (pos : 0 < next) (e : Euclid q a last next last-factor next-factor) where
-  quotient : ℕ
-  quotient = last / next
-
-  whole : next * quotient + last % next ≡ last
-  unfolding quotient
+module _ {q a last next last-factor next-factor : ℕ} {minus : Bool} (pos : 0 < next) (e : Euclid q a last next last-factor next-factor minus) where
+  whole : next * (last / next) + last % next ≡ last
   whole = div-add-mod last next
 
-  new-leaves : ⟨ q ⟩ a * new-factor q quotient last-factor next-factor ≈ last % next
-  unfolding new-factor
-  new-leaves =
-      let s : ℕ = quotient * next-factor % q in
-      let small : s < q = mod-lt (quotient * next-factor) (omega arith) in
-      let back : s + (q - s) ≡ q = omega arith in
-      let taken : ⟨ q ⟩ a * s ≈ quotient * next =
-      ≈-trans (≈-scale a (≈-mod (quotient * next-factor))) (≈-by (≈-scale quotient (e .next-leaves)) (omega arith)) in
-      ≈-trans (≈-scale a (≈-mod (last-factor + (q - s))))
-      (≈-by (≈-add (≈-add (e .last-leaves) (≈-multiple a)) (≈-sym taken))
-      (omega (arith, ap (λ (k : ℕ). a * k) back, whole)))
+  some : 0 < last / next
+  some = omega (arith, div-eq-sub-div pos (le-of-lt (e .falls)))
 
-  pub euclid-step : Euclid q a next (last % next) next-factor (new-factor q (last / next) last-factor next-factor)
-  unfolding quotient new-factor
+  new-within : next + next-factor ≤ q
+  new-within = omega (arith, mul-le-mul-right next-factor (e .falls), mul-le-mul-left next (e .positive))
+
+  new-balance : next * (last-factor + last / next * next-factor) + last % next * next-factor ≡ q
+  new-balance = omega (arith, ap (λ (k : ℕ). k * next-factor) whole)
+
+  pub euclid-below : last-factor + last / next * next-factor ≤ q
+  euclid-below = omega (arith, new-balance, mul-le-mul-right (last-factor + last / next * next-factor) pos)
+
+  pub euclid-step : Euclid q a next (last % next) next-factor (last-factor + last / next * next-factor) (not minus)
   euclid-step = record {
     falls = mod-lt last pos;
-    within = omega (arith, e .falls, e .within);
-    last-small = e .next-small;
-    next-small = mod-lt (last-factor + (q - quotient * next-factor % q)) (omega arith);
+    within = new-within;
+    moved = omega arith;
+    positive = omega (arith, mul-pos some (e .positive));
+    balance = new-balance;
     last-leaves = e .next-leaves;
-    next-leaves = new-leaves;
-    common = λ d hn hr. e .common d (subst (λ (k : ℕ). d ∣ k) whole (dvd-add d (dvd-mul-right-of-dvd d hn quotient) hr)) hn;
+    next-leaves =
+        step-leaves q a minus last-factor next-factor (last / next) next (last % next) (omega (arith, new-within)) euclid-below
+        (≈-trans (e .last-leaves) (≈-of-eq (sym whole)))
+        (e .next-leaves);
   }
 
--- the last remainder before 0 divides q and a, so it is 1
-pub euclid-end : {q a last next last-factor next-factor : ℕ} → Prime q → (a % q ≡ 0 → ⊥) → next ≡ 0
-    → Euclid q a last next last-factor next-factor → last-factor ≡ inverse q a
-euclid-end {q} {a} {last} {next} {last-factor} prime ne z e = inverse-unique prime a last-factor (e .last-small) (≈-trans (e .last-leaves) (≈-of-eq one))
-  where
-    both : (last ∣ q) × (last ∣ a % q)
-    both = e .common last (dvd-refl last) (subst (λ (k : ℕ). last ∣ k) (sym z) (dvd-zero last))
+with-sign-below : (q : ℕ) (minus : Bool) (factor : ℕ) → 0 < factor → factor < q → with-sign q minus factor < q
+unfolding with-sign
+with-sign-below q true factor pos h = omega arith
+with-sign-below q false factor pos h = h
 
-    small : last < q
-    small =
-        let low : a % q < q = mod-lt a (omega (arith, prime .above-one)) in
-        let h : last ≤ a % q = le-of-dvd (omega arith) (both .1) in
-        omega arith
+-- the last remainder before 0 divides q, so it is 1
+pub euclid-end : {q a last next last-factor next-factor : ℕ} {minus : Bool} → Prime q → next ≡ 0
+    → Euclid q a last next last-factor next-factor minus → with-sign q minus last-factor ≡ inverse q a
+euclid-end {q} {a} {last} {next} {last-factor} {next-factor} {minus} prime z e =
+    inverse-unique prime a (with-sign q minus last-factor) (with-sign-below q minus last-factor (omega arith) (omega arith))
+    (≈-trans (e .last-leaves) (≈-of-eq one))
+  where
+    product : last * next-factor ≡ q
+    product = omega (arith, ap (λ (k : ℕ). k * last-factor) z)
 
     one : last ≡ 1
     one =
-        ⊎-elim (λ (h : last ≤ 1). omega (arith, e .falls))
-        (λ (h : 1 < last). absurd (prime .no-divisor last h small (mod-eq-zero-of-dvd last (both .0))))
+        ⊎-elim (λ (h : last ≤ 1). omega arith)
+        (λ (h : 1 < last). absurd (prime .no-divisor last h (omega arith) (ap (λ (k : ℕ). k % last) (sym product) ∙ mul-mod-right last next-factor)))
         (le-or-lt last 1)

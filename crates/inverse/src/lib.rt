@@ -8,26 +8,29 @@ use field::Modulus;
 pub fn inverse_of(modulus: Modulus, a: u32) -> u32
     ensures { λ r. ⌜ r ≡ inverse (prime modulus) a ⌝ }
 {
-    let q = field::prime_of(modulus) as u64;
+    let q = field::prime_of(modulus);
     let mut last = q;
-    let mut next = a as u64 % q;
+    let mut next = field::reduce(modulus, a as u64);
     if next == 0 {
         return 0;
     }
-    // a times a remainder's factor leaves the remainder.
+    // Sizes of factors: a times a remainder's factor, with its sign, leaves the remainder.
+    // The signs alternate, and minus says whether the last factor is negative.
     let mut last_factor = 0;
     let mut next_factor = 1;
+    let mut minus = true;
     let factor = loop {
         if next == 0 {
             break last_factor;
         }
         let quotient = last / next;
         let remainder = last % next;
-        let new_factor = (last_factor + (q - quotient * next_factor % q)) % q;
+        let new_factor = last_factor + quotient * next_factor;
         last = next;
         next = remainder;
         last_factor = next_factor;
         next_factor = new_factor;
+        minus = !minus;
     };
-    factor as u32
+    if minus { q - factor } else { factor }
 }
