@@ -27,7 +27,7 @@ use Rattle.product.specs.Product.{productOf, lengthTest, productTests, productA
 use Rattle.host.specs.Host.{byteLengthTest, hostTests, hostProduct, hostAfter}
 
 abbrev pub Counts : ℕ → ℕ → Type 0
-Counts bytes r = (r ≤ 4096) × ((n : ℕ) → 1 ≤ n → n ≤ 4096 → eqb r n ≡ eqb bytes (4 * n))
+Counts bytes r = (r ≤ min (bytes / 4) 4096) × ((n : ℕ) → 1 ≤ n → n ≤ 4096 → eqb r n ≡ eqb bytes (4 * n))
 
 pub eqb-same : (a b c d : ℕ) → (a ≡ b → c ≡ d) → (c ≡ d → a ≡ b) → eqb a b ≡ eqb c d
 eqb-same a b c d there back =
@@ -45,19 +45,19 @@ same-first false false true x y x′ y′ k l m n o hx hy = refl
 same-first false false false x y true y′ k l m n o hx hy = rw (hx refl refl)
 same-first false false false x y false y′ k l m n o hx hy = rw (hx refl refl, hy refl refl refl refl)
 
--- as many elements as are counted, of those read from bytes into a list of 4096
+-- as many elements as are counted, of those read from bytes into a list that has room for them
 counted : List ℕ → List ℕ → ℕ → List ℕ
 counted bytes old n = take n (elementsOf (common bytes old) bytes ++ drop (common bytes old) old)
 
-counted-exact : (bytes old : List ℕ) (n : ℕ) → length old ≡ 4096 → n ≤ 4096 → length bytes ≡ 4 * n → counted bytes old n ≡ elementsOf n bytes
+counted-exact : (bytes old : List ℕ) (n : ℕ) → n ≤ length old → length bytes ≡ 4 * n → counted bytes old n ≡ elementsOf n bytes
 unfolding counted common
-counted-exact bytes old n size few len =
+counted-exact bytes old n few len =
     let all : min (length bytes / 4) (length old) ≡ n = omega arith in
     ap (λ (k : ℕ). take n (elementsOf k bytes ++ drop k old)) all ∙ take-at (elementsOf n bytes) _ n (length-elements n bytes)
 
-counted-length : (bytes old : List ℕ) (n : ℕ) → length old ≡ 4096 → n ≤ 4096 → length (counted bytes old n) ≡ n
+counted-length : (bytes old : List ℕ) (n : ℕ) → n ≤ length old → length (counted bytes old n) ≡ n
 unfolding counted common
-counted-length bytes old n size few =
+counted-length bytes old n few =
     let k = min (length bytes / 4) (length old) in
     let small = min-le-right (length bytes / 4) (length old) in
     length-take-le n _ (omega (arith, length-append (elementsOf k bytes) (drop k old), length-elements k bytes, length-drop k old))
@@ -90,30 +90,30 @@ module _ (rows inner columns : ℕ) (a b : List ℕ) (room na nb nc : ℕ) (ca :
           let each = or-all (not (eqb (length a) (4 * (rows * inner)))) (not (eqb (length b) (4 * (inner * columns)))) (not (eqb room (4 * (rows * columns)))) len in
           (equal _ _ (each .0), equal _ _ (each .1), equal _ _ (each .2))
 
-      module _ (olda oldb : List ℕ) (sa : length olda ≡ 4096) (sb : length oldb ≡ 4096) where
+      module _ (olda oldb : List ℕ) (sa : na ≤ length olda) (sb : nb ≤ length oldb) where
         left-exact : counted a olda na ≡ elementsOf (rows * inner) a
         left-exact =
             let w = whole in
             let l = byte-lengths in
-            counted-exact a olda na sa (ca .0) (omega arith) ∙ ap (λ (k : ℕ). elementsOf k a) (w .0)
+            counted-exact a olda na sa (omega arith) ∙ ap (λ (k : ℕ). elementsOf k a) (w .0)
 
         right-exact : counted b oldb nb ≡ elementsOf (inner * columns) b
         right-exact =
             let w = whole in
             let l = byte-lengths in
-            counted-exact b oldb nb sb (cb .0) (omega arith) ∙ ap (λ (k : ℕ). elementsOf k b) (w .1)
+            counted-exact b oldb nb sb (omega arith) ∙ ap (λ (k : ℕ). elementsOf k b) (w .1)
 
   -- the lists that the elements are read into, and the block
-  module _ (n : ℕ) (olda oldb block : List ℕ) (sa : length olda ≡ 4096) (sb : length oldb ≡ 4096) (sc : length block ≡ 4096) where
+  module _ (n : ℕ) (olda oldb block : List ℕ) (sa : na ≤ length olda) (sb : nb ≤ length oldb) (sc : nc ≤ length block) where
     room-is : length (take nc block) ≡ nc
-    room-is = length-take-le nc block (omega (arith, cc .0))
+    room-is = length-take-le nc block sc
 
     same-number : first (productTests n rows inner columns (counted a olda na) (counted b oldb nb) (length (take nc block)))
         ≡ first (hostTests n rows inner columns a b room)
     unfolding productTests hostTests
     same-number =
         same-first _ _ _ _ _ _ _ 1 2 6 13 14
-        (λ size over. rw (counted-length a olda na sa (ca .0), counted-length b oldb nb sb (cb .0), room-is) (same-lengths size over))
+        (λ size over. rw (counted-length a olda na sa, counted-length b oldb nb sb, room-is) (same-lengths size over))
         (λ t size over len. rw (left-exact size over len olda oldb sa sb, right-exact size over len olda oldb sa sb))
 
     -- the elements that were read, and the number that the product told

@@ -2,22 +2,26 @@
 --
 --   refused    by a number that is not 0: the output stays
 --   done       by 0: the output holds the product
---   passed     what the tests 2, 6 and 13 leave: sizes and lengths
+--   ready      what the tests 2, 6, 13 and 14 leave: sizes, lengths and elements
 use mathlib.Core.Path.{_≡_, sym, ap, _∙_}
-use mathlib.Core.Bool.{false, not}
+use mathlib.Core.Bool.{false, not, _||_}
 use mathlib.Core.List.{List}
 use Prim.Native.Nat.{ℕ, _*_, _≤_}
 use native.Mathlib.Omega.{arith}
 use native.Mathlib.Nat.{mul-le-mul-right}
 use lib.Dec.{eqb}
 use lib.ListN.{length}
-use Rattle.algebra.proofs.Tests.{or-all, equal}
+use borrow.Author.Tests.{not-false}
+use Rattle.algebra.specs.Lists.{allBelow}
+use Rattle.algebra.proofs.Lists.{all-below-test}
+use Rattle.algebra.proofs.Tests.{or-left, or-right, or-all, equal}
 use Rattle.refusal.specs.Chain.{first, answer}
 use Rattle.refusal.specs.Limits.{sizesOutside, overBlock}
 use Rattle.refusal.proofs.Chains.{answer-done, answer-refused}
 use Rattle.refusal.proofs.Limits.{within-all, blocks-fit}
 use Rattle.field.specs.Modulus.{modulus}
 use Rattle.product.specs.Product.{productOf, lengthTest, productTests, productAfter}
+use Rattle.product.specs.Rows.{Ready}
 
 module _ (n rows inner columns : ℕ) (a b out : List ℕ) where
   number : ℕ
@@ -37,28 +41,19 @@ module _ (n rows inner columns : ℕ) (a b out : List ℕ) where
   unfolding productAfter number block
   done e after is = (sym e, is ∙ sym (answer-done block (λ s. out) number e))
 
--- sizes and lengths once the tests 2, 6 and 13 have passed
-pub record Passed (rows inner columns a b out : ℕ) : Type 0 where
-  pub length-a : a ≡ rows * inner
-  pub length-b : b ≡ inner * columns
-  pub length-out : out ≡ rows * columns
-  pub few : inner ≤ 4096
-  pub thin : columns ≤ 4096
-  pub block-a : rows * inner ≤ 4096
-  pub block-c : rows * columns ≤ 4096
-
-pub passed : (rows inner columns a b out : ℕ) → sizesOutside rows inner columns ≡ false → overBlock rows inner columns ≡ false
-    → lengthTest rows inner columns a b out ≡ false → Passed rows inner columns a b out
+pub ready : (q rows inner columns : ℕ) (a b : List ℕ) (room : ℕ) → sizesOutside rows inner columns ≡ false → overBlock rows inner columns ≡ false
+    → lengthTest rows inner columns (length a) (length b) room ≡ false → (not (allBelow q a) || not (allBelow q b)) ≡ false → Ready q rows inner columns a b room
 unfolding sizesOutside lengthTest
-passed rows inner columns a b out size block len =
+ready q rows inner columns a b room size block len below =
     let sizes = within-all 16384 rows inner columns size in
     let blocks = blocks-fit rows inner columns block in
-    let each = or-all (not (eqb a (rows * inner))) (not (eqb b (inner * columns))) (not (eqb out (rows * columns))) len in
+    let each = or-all (not (eqb (length a) (rows * inner))) (not (eqb (length b) (inner * columns))) (not (eqb room (rows * columns))) len in
     let one-row : 1 * inner ≤ rows * inner = mul-le-mul-right inner (sizes .0 .low) in
     let one-line : 1 * columns ≤ rows * columns = mul-le-mul-right columns (sizes .0 .low) in
     record {
+      below-a = all-below-test q a (not-false (allBelow q a) (or-left _ _ below));
+      below-b = all-below-test q b (not-false (allBelow q b) (or-right (not (allBelow q a)) _ below));
       length-a = equal _ _ (each .0);
-      length-b = equal _ _ (each .1);
       length-out = equal _ _ (each .2);
       few = omega (arith, one-row, blocks .0);
       thin = omega (arith, one-line, blocks .2);

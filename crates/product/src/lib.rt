@@ -7,7 +7,7 @@ ghost use Rattle.algebra.specs.Lists.{AllBelow, allBelow};
 ghost use Rattle.refusal.specs.Chain.{first};
 ghost use Rattle.field.specs.Modulus.{prime};
 ghost use Rattle.product.specs.Product.{productOf, lengthTest, productTests, productAfter};
-ghost use Rattle.product.specs.Rows.{AtOnce};
+ghost use Rattle.product.specs.Rows.{Ready, AtOnce};
 use field::Modulus;
 use field::Named;
 use refusal::either;
@@ -16,6 +16,9 @@ use words::wide_product;
 
 // The most elements that a block has, and so the most columns.
 const MOST_COLUMNS: usize = 4096;
+
+// Up to so many columns, only so many sums are made: to make the most takes longer than a small product.
+const FEW_COLUMNS: usize = 64;
 
 // The largest prime whose elements are packed.
 const MOST_PACKED_PRIME: u32 = 257;
@@ -105,7 +108,7 @@ fn few_rows(
     pairs::unpack(modulus, true, sums, &mut out[columns..]);
 }
 
-// The product of two shares of the right lengths, a few rows at a time.
+// The product of two shares of the right lengths, a few rows at a time. There is a sum for each column.
 fn multiply_rows(
     modulus: Modulus,
     rows: usize,
@@ -113,19 +116,12 @@ fn multiply_rows(
     columns: usize,
     a: &[u32],
     b: &[u32],
+    sums: &mut [u64],
     out: &mut [u32],
 )
-    requires { ⌜ AllBelow (prime modulus) (now a)
-        × AllBelow (prime modulus) (now b)
-        × length (now a) ≡ rows * inner
-        × length (now out) ≡ rows * columns
-        × inner ≤ 4096
-        × columns ≤ 4096
-        × rows * inner ≤ 4096
-        × rows * columns ≤ 4096 ⌝ }
+    requires { ⌜ Ready (prime modulus) rows inner columns (now a) (now b) (length (now out)) × length (now sums) ≡ columns ⌝ }
     ensures { λ _. ⌜ now (out .exit) ≡ productOf (prime modulus) rows inner columns (now (a .entry)) (now (b .entry)) ⌝ }
 {
-    let mut sums = [0u64; MOST_COLUMNS];
     let step = at_once(modulus, inner);
     let mut i = 0;
     while i < rows {
@@ -140,10 +136,50 @@ fn multiply_rows(
             inner,
             &a[left..left_end],
             b,
-            &mut sums[..columns],
+            sums,
             &mut out[start..end],
         );
         i += n;
+    }
+}
+
+// The product of two shares of the right lengths, with few sums or the most.
+fn multiply(
+    modulus: Modulus,
+    rows: usize,
+    inner: usize,
+    columns: usize,
+    a: &[u32],
+    b: &[u32],
+    out: &mut [u32],
+)
+    requires { ⌜ Ready (prime modulus) rows inner columns (now a) (now b) (length (now out)) ⌝ }
+    ensures { λ _. ⌜ now (out .exit) ≡ productOf (prime modulus) rows inner columns (now (a .entry)) (now (b .entry)) ⌝ }
+{
+    if columns <= FEW_COLUMNS {
+        let mut few = [0u64; FEW_COLUMNS];
+        multiply_rows(
+            modulus,
+            rows,
+            inner,
+            columns,
+            a,
+            b,
+            &mut few[..columns],
+            out,
+        );
+    } else {
+        let mut many = [0u64; MOST_COLUMNS];
+        multiply_rows(
+            modulus,
+            rows,
+            inner,
+            columns,
+            a,
+            b,
+            &mut many[..columns],
+            out,
+        );
     }
 }
 
@@ -176,7 +212,7 @@ pub fn product(
     if element_test(named, a, b) {
         return refusal::ELEMENT;
     }
-    multiply_rows(
+    multiply(
         named,
         rows as usize,
         inner as usize,

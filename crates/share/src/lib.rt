@@ -32,6 +32,9 @@ const MOST_WEIGHTS: usize = 80;
 
 const MOST_COLUMNS: usize = 4096;
 
+// Up to so many columns, only so many sums are made: to make the most takes longer than a small share.
+const FEW_COLUMNS: usize = 64;
+
 // A buffer is not of exact length.
 fn length_test(s: Side, xs: usize, masks: usize, out: usize) -> bool
     requires { ⌜ Small s ⌝ }
@@ -150,22 +153,22 @@ fn share_row(
     sums::reduce_row(modulus, sums, out);
 }
 
-// The share, row by row.
+// The share, row by row. There is a sum for each column.
 fn share_rows(
     modulus: Modulus,
     s: Side,
     weights: &[u32],
     xs: &[u32],
     masks: &[u32],
+    sums: &mut [u64],
     out: &mut [u32],
 )
-    requires { ⌜ Ready (prime modulus) s (now weights) (now xs) (now masks) × length (now out) ≡ blockLength s ⌝ }
+    requires { ⌜ Ready (prime modulus) s (now weights) (now xs) (now masks) × length (now out) ≡ blockLength s × length (now sums) ≡ s .columns ⌝ }
     ensures { λ _. ⌜ now (out .exit)
         ≡ grid (λ i j. rowSums s (now (weights .entry)) (now (xs .entry)) (now (masks .entry)) i j % prime modulus) (s .rows) (s .columns) ⌝ }
 {
     let rows = s.rows;
     let columns = s.columns;
-    let mut sums = [0u64; MOST_COLUMNS];
     let mut i = 0;
     while i < rows {
         let start = i * columns;
@@ -177,10 +180,33 @@ fn share_rows(
             weights,
             xs,
             masks,
-            &mut sums[..columns],
+            sums,
             &mut out[start..end],
         );
         i += 1;
+    }
+}
+
+// The share, with few sums or the most.
+fn share_weighed(
+    modulus: Modulus,
+    s: Side,
+    weights: &[u32],
+    xs: &[u32],
+    masks: &[u32],
+    out: &mut [u32],
+)
+    requires { ⌜ Ready (prime modulus) s (now weights) (now xs) (now masks) × length (now out) ≡ blockLength s ⌝ }
+    ensures { λ _. ⌜ now (out .exit)
+        ≡ grid (λ i j. rowSums s (now (weights .entry)) (now (xs .entry)) (now (masks .entry)) i j % prime modulus) (s .rows) (s .columns) ⌝ }
+{
+    let columns = s.columns;
+    if columns <= FEW_COLUMNS {
+        let mut few = [0u64; FEW_COLUMNS];
+        share_rows(modulus, s, weights, xs, masks, &mut few[..columns], out);
+    } else {
+        let mut many = [0u64; MOST_COLUMNS];
+        share_rows(modulus, s, weights, xs, masks, &mut many[..columns], out);
     }
 }
 
@@ -198,7 +224,7 @@ fn share_planned(plan: Plan, s: Side, x: u32, xs: &[u32], masks: &[u32], out: &m
     let modulus = plan.modulus;
     let mut weights = [0u32; MOST_WEIGHTS];
     side_weights(plan, s, x, &mut weights);
-    share_rows(modulus, s, &weights, xs, masks, out);
+    share_weighed(modulus, s, &weights, xs, masks, out);
 }
 
 // The share of a host, numbered from 1: the output then holds it, or the call is refused by number and the output stays as it

@@ -6,7 +6,7 @@ use native.Mathlib.Nat.{mul-le-mul-right, add-sub-cancel-left}
 use native.Mathlib.Omega.{arith}
 use borrow.Author.Needs.{needs}
 use lib.ListN.{length, take, drop, length-drop}
-use lib.Seq.{length-take-le, length-front}
+use lib.Seq.{length-take-le}
 use Rattle.algebra.specs.Lists.{grid}
 use Rattle.algebra.proofs.Lists.{below-part}
 use Rattle.algebra.proofs.Grids.{rows-none, rows-some, rows-all}
@@ -23,22 +23,24 @@ element : Modulus → ℕ → ℕ → List ℕ → List ℕ → ℕ → ℕ → 
 element modulus inner columns a b i j = productEntry inner columns a b i j % prime modulus
 
 abbrev Inv-loop : tie.InvT-loop
-Inv-loop modulus rows inner columns a b out₀ sums₀ step i₀ out sums i =
+Inv-loop modulus rows inner columns a b sums₀ out₀ step i₀ sums out i =
     record {
       short : i ≤ rows;
-      wide : length sums ≡ 4096;
+      wide : length sums ≡ columns;
       same : length out ≡ length out₀;
       is : out ≡ grid (element modulus inner columns a b) i columns ++ drop (i * columns) out₀;
     }
 
 abbrev μ-loop : tie.MeasureT-loop
-μ-loop modulus rows inner columns a b out₀ sums₀ step i₀ out sums i = rows - i
+μ-loop modulus rows inner columns a b sums₀ out₀ step i₀ sums out i = rows - i
 
 at-once-requires : tie.Need-at-once-requires Inv-loop μ-loop
 at-once-requires c κs = search needs
 
 loop-holds : tie.Need-loop-holds Inv-loop μ-loop
-loop-holds c = let a = c .before .before .before .before .args in record { short = omega arith; wide = refl; same = refl; is = rows-none _ (a .out .now) (a .columns) }
+loop-holds c =
+    let e = c .before .before .before .before .before in
+    record { short = omega arith; wide = e .pre .1; same = refl; is = rows-none _ (e .args .out .now) (e .args .columns) }
 
 sub-least : tie.Need-sub-least Inv-loop μ-loop
 sub-least c = omega arith
@@ -48,20 +50,18 @@ least-requires c κs = search needs
 
 -- the rows of this turn: one or two of those that are left
 turn : (c : tie.After-least Inv-loop μ-loop)
-    → let a = c .before .before .before .before .before .before .before .args in
+    → let a = c .before .before .before .before .before .before .before .before .args in
     let i = c .before .before .loop .i in
     let n = c .least .result in
     AtOnce (prime (a .modulus)) (a .inner) n × (i + n ≤ a .rows) × (i * a .inner + n * a .inner ≤ a .rows * a .inner) × (i * a .columns + n * a .columns ≤ a .rows * a .columns)
-    × (length (take (a .columns) (c .before .before .loop .sums)) ≡ a .columns)
 turn c =
-    let a = c .before .before .before .before .before .before .before .args in
+    let a = c .before .before .before .before .before .before .before .before .args in
     let once = c .before .before .before .at-once .ensures in
     let n : c .before .before .loop .i + c .least .result ≤ a .rows = omega (arith, c .least .ensures) in (
       record { some = omega (arith, c .least .ensures); few = omega (arith, c .least .ensures); room = λ h. once .room (omega (arith, c .least .ensures)) },
       n,
       omega (arith, mul-le-mul-right (a .inner) n),
       omega (arith, mul-le-mul-right (a .columns) n),
-      length-take-le (a .columns) (c .before .before .loop .sums) (omega arith),
     )
 
 mul-left : tie.Need-mul-left Inv-loop μ-loop
@@ -94,12 +94,6 @@ part-few-rows-start c = let t = turn c in omega arith
 part-few-rows-end : tie.Need-part-few-rows-end Inv-loop μ-loop
 part-few-rows-end c = let t = turn c in omega arith
 
-array-borrow-prefix-sums : tie.Need-array-borrow-prefix-sums Inv-loop μ-loop
-array-borrow-prefix-sums c = omega arith
-
-slice-aggregate-few-rows : tie.Need-slice-aggregate-few-rows Inv-loop μ-loop
-slice-aggregate-few-rows c = sym (length-take-le _ _ (omega arith))
-
 mul-few-rows-2 : tie.Need-mul-few-rows-2 Inv-loop μ-loop
 mul-few-rows-2 c = let t = turn (c .before .before) in omega arith
 
@@ -115,7 +109,7 @@ part-few-rows-end-2 c = let t = turn (c .before .before) in omega arith
 few-rows-requires : tie.Need-few-rows-requires Inv-loop μ-loop
 few-rows-requires c κs =
     let l = c .before .before .before in
-    let e = l .before .before .before .before .before .before .before in
+    let e = l .before .before .before .before .before .before .before .before in
     let a = e .args in
     let i = l .before .before .loop .i in
     let n = l .least .result in
@@ -123,36 +117,36 @@ few-rows-requires c κs =
     let t = turn l in
     rw (add-sub-cancel-left, add-sub-cancel-left) (
       t .0,
-      below-part (prime (a .modulus)) (a .a .now) (e .pre .0) (n * a .inner) (i * a .inner),
-      e .pre .1,
-      e .pre .4,
+      below-part (prime (a .modulus)) (a .a .now) (e .pre .0 .below-a) (n * a .inner) (i * a .inner),
+      e .pre .0 .below-b,
+      e .pre .0 .few,
       length-take-le (n * a .inner) (drop (i * a .inner) (a .a .now)) (omega (arith, length-drop (i * a .inner) (a .a .now))),
       length-take-le (n * a .columns) (drop (i * a .columns) out) (omega (arith, length-drop (i * a .columns) out))
-          ∙ ap (λ (k : ℕ). n * k) (sym (t .4)),
+          ∙ ap (λ (k : ℕ). n * k) (sym (l .before .before .loop .inv .wide)),
     )
 
 add-i : tie.Need-add-i Inv-loop μ-loop
-add-i c = let t = turn (c .before .before .before .before .before .before .before) in omega arith
+add-i c = let t = turn (c .before .before .before .before .before .before .before .before) in omega arith
 
 loop-less : tie.Need-loop-less Inv-loop μ-loop
-loop-less c = let t = turn (c .before .before .before .before .before .before .before) in omega arith
+loop-less c = let t = turn (c .before .before .before .before .before .before .before .before) in omega arith
 
 loop-again : tie.Need-loop-again Inv-loop μ-loop
 unfolding element
 loop-again c =
-    let rows = c .before .before .before in
+    let rows = c .before .before .before .before in
     let l = rows .before .before .before .before in
-    let a = l .before .before .before .before .before .before .before .args in
+    let a = l .before .before .before .before .before .before .before .before .args in
     let loop = l .before .before .loop in
     let n = l .least .result in
     let t = turn l in
     let made = rw add-sub-cancel-left at (rows .few-rows .ensures) in
     let is = made
-    ∙ ap (λ (k : ℕ). productOf (prime (a .modulus)) n (a .inner) k (take (n * a .inner) (drop (loop .i * a .inner) (a .a .now))) (a .b .now)) (t .4)
+    ∙ ap (λ (k : ℕ). productOf (prime (a .modulus)) n (a .inner) k (take (n * a .inner) (drop (loop .i * a .inner) (a .a .now))) (a .b .now)) (loop .inv .wide)
     ∙ part-rows (prime (a .modulus)) (a .inner) (a .columns) (a .a .now) (a .b .now) (loop .i) n in
     record {
       short = t .1;
-      wide = length-front (loop .sums) (rows .few-rows .last .1 .1 .1 .1 .1 .0) (a .columns) (c .before .before .sums2 .given) ∙ loop .inv .wide;
+      wide = omega arith;
       same = omega arith;
       is = rw add-sub-cancel-left (rows-some (element (a .modulus) (a .inner) (a .columns) (a .a .now) (a .b .now)) (a .out .now) (loop .out) _ (a .columns) (loop .i) n (loop .inv .is) is);
     }
@@ -160,14 +154,17 @@ loop-again c =
 same-length : tie.Need-same-length Inv-loop μ-loop
 same-length c = omega arith
 
+same-length-2 : tie.Need-same-length-2 Inv-loop μ-loop
+same-length-2 c = omega arith
+
 returns : tie.Need-returns Inv-loop μ-loop
 unfolding productOf element
 returns c =
     let l = c .before in
-    let e = l .before .before .before .before .before in
+    let e = l .before .before .before .before .before .before in
     let a = e .args in
     let all : l .loop .i ≡ a .rows = omega arith in
-    rows-all (element (a .modulus) (a .inner) (a .columns) (a .a .now) (a .b .now)) (a .out .now) (l .loop .out) (a .rows) (a .columns) (e .pre .3)
+    rows-all (element (a .modulus) (a .inner) (a .columns) (a .a .now) (a .b .now)) (a .out .now) (l .loop .out) (a .rows) (a .columns) (e .pre .0 .length-out)
     (l .loop .inv .is ∙ ap (λ (k : ℕ). grid (element (a .modulus) (a .inner) (a .columns) (a .a .now) (a .b .now)) k (a .columns) ++ drop (k * a .columns) (a .out .now)) all)
 
 pub multiply-rows-spec : {M : Type 1} → statement M
@@ -190,8 +187,6 @@ multiply-rows-spec =
     sub-few-rows
     part-few-rows-start
     part-few-rows-end
-    array-borrow-prefix-sums
-    slice-aggregate-few-rows
     mul-few-rows-2
     sub-few-rows-2
     part-few-rows-start-2
@@ -201,4 +196,5 @@ multiply-rows-spec =
     loop-less
     loop-again
     same-length
+    same-length-2
     returns)

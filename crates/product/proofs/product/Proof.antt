@@ -1,17 +1,12 @@
 -- `product::product` meets its contract.
 use mathlib.Core.Path.{refl, sym, _∙_}
-use mathlib.Core.Bool.{not}
 use native.Mathlib.Nat.{suc-ne-zero}
 use lib.ListN.{length}
-use borrow.Author.Tests.{not-false}
-use Rattle.algebra.specs.Lists.{allBelow}
-use Rattle.algebra.proofs.Lists.{all-below-test}
-use Rattle.algebra.proofs.Tests.{or-left, or-right}
 use Rattle.refusal.specs.Chain.{first}
 use Rattle.field.specs.Modulus.{prime}
 use Rattle.field.proofs.Moduli.{Known, known, none-named}
 use Rattle.product.specs.Product.{productTests}
-use Rattle.product.proofs.Answers.{refused, done, passed}
+use Rattle.product.proofs.Answers.{refused, done, ready}
 use borrow.Author.Needs.{needs}
 use Rattle.product.proofs.product.Statement.{statement}
 use Rattle.product.proofs.product.Tie as tie
@@ -85,28 +80,16 @@ returns-5 c =
     refused (a .modulus) (a .rows) (a .inner) (a .columns) (a .a .now) (a .b .now) (a .out .now) 14 (λ z. suc-ne-zero 13 z)
     (rw (known-prime (k .before) .is-number, ← size .before .sizes-outside .ensures, size .if1 .left, ← block .before .over-block .ensures, block .if2 .left, ← len .before .length-test .ensures, len .if3 .left, known-prime (k .before) .is, ← c .before .element-test .ensures, c .if4 .taken))
 
-multiply-rows-requires : tie.Need-multiply-rows-requires
-multiply-rows-requires c κs =
+multiply-requires : tie.Need-multiply-requires
+multiply-requires c κs =
     let els = c .before in
     let len = els .before .before in
     let block = len .before .before in
     let size = block .before .before in
     let k = size .before .before in
     let a = k .before .before .before .before .before .before .before .args in
-    let q = prime (k .before .named .given .0 .0) in
-    let below = sym (els .before .element-test .ensures) ∙ els .if4 .left in
-    let ta = not (allBelow q (a .a .now)) in
-    let tb = not (allBelow q (a .b .now)) in
-    let p = passed (a .rows) (a .inner) (a .columns) (length (a .a .now)) (length (a .b .now)) (length (a .out .now)) (sym (size .before .sizes-outside .ensures) ∙ size .if1 .left) (sym (block .before .over-block .ensures) ∙ block .if2 .left) (sym (len .before .length-test .ensures) ∙ len .if3 .left) in (
-      all-below-test q (a .a .now) (not-false (allBelow q (a .a .now)) (or-left ta tb below)),
-      all-below-test q (a .b .now) (not-false (allBelow q (a .b .now)) (or-right ta tb below)),
-      p .length-a,
-      p .length-out,
-      p .few,
-      p .thin,
-      p .block-a,
-      p .block-c,
-    )
+    ready (prime (k .before .named .given .0 .0)) (a .rows) (a .inner) (a .columns) (a .a .now) (a .b .now) (length (a .out .now)) (sym (size .before .sizes-outside .ensures) ∙ size .if1 .left)
+    (sym (block .before .over-block .ensures) ∙ block .if2 .left) (sym (len .before .length-test .ensures) ∙ len .if3 .left) (sym (els .before .element-test .ensures) ∙ els .if4 .left)
 
 same-length : tie.Need-same-length
 same-length c = search needs
@@ -122,7 +105,7 @@ returns-6 c =
     let a = k .before .before .before .before .before .before .before .args in
     done (a .modulus) (a .rows) (a .inner) (a .columns) (a .a .now) (a .b .now) (a .out .now)
     (rw (known-prime (k .before) .is-number, ← size .before .sizes-outside .ensures, size .if1 .left, ← block .before .over-block .ensures, block .if2 .left, ← len .before .length-test .ensures, len .if3 .left, known-prime (k .before) .is, ← els .before .element-test .ensures, els .if4 .left))
-    _ (rw (known-prime (k .before) .is) (c .before .before .multiply-rows .ensures))
+    _ (rw (known-prime (k .before) .is) (c .before .before .multiply .ensures))
 
 pub product-spec : {M : Type 1} → statement M
 product-spec =
@@ -140,6 +123,6 @@ product-spec =
     returns-4
     element-test-requires
     returns-5
-    multiply-rows-requires
+    multiply-requires
     same-length
     returns-6)

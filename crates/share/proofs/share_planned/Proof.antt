@@ -31,11 +31,11 @@ few small = omega (arith, mul-le-mul (small .down) (small .across))
 side-weights-requires : tie.Need-side-weights-requires
 side-weights-requires c κs = let small = c .before .before .before .before .pre .0 in (small, few small)
 
-slice-aggregate-share-rows : tie.Need-slice-aggregate-share-rows
-slice-aggregate-share-rows c = search needs
+slice-aggregate-share-weighed : tie.Need-slice-aggregate-share-weighed
+slice-aggregate-share-weighed c = search needs
 
-share-rows-requires : tie.Need-share-rows-requires
-share-rows-requires c κs =
+share-weighed-requires : tie.Need-share-weighed-requires
+share-weighed-requires c κs =
     let sw = c .before .before .before in
     let e = sw .before .before .before .before .before in
     let a = e .args in
@@ -62,7 +62,7 @@ returns c =
     let rows = c .before .before in
     let sw = rows .before .before .before .before in
     let a = sw .before .before .before .before .before .args in
-    rows .share-rows .ensures ∙ share-exact (prime (a .plan .modulus)) (exponents (a .plan .layout) (a .plan .parameters)) (a .s) (a .x) _ _ (a .xs .now) (a .masks .now) (sw .side-weights .ensures)
+    rows .share-weighed .ensures ∙ share-exact (prime (a .plan .modulus)) (exponents (a .plan .layout) (a .plan .parameters)) (a .s) (a .x) _ _ (a .xs .now) (a .masks .now) (sw .side-weights .ensures)
 
 pub share-planned-spec : {M : Type 1} → statement M
 share-planned-spec =
@@ -70,7 +70,7 @@ share-planned-spec =
     (tie.spec
     slice-aggregate-side-weights
     side-weights-requires
-    slice-aggregate-share-rows
-    share-rows-requires
+    slice-aggregate-share-weighed
+    share-weighed-requires
     same-length
     returns)

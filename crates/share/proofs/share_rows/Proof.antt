@@ -1,11 +1,10 @@
 -- `share::share_rows` meets its contract.
-use mathlib.Core.Path.{_≡_, refl, sym, ap, _∙_, subst}
+use mathlib.Core.Path.{_≡_, refl, sym, ap, _∙_}
 use mathlib.Core.List.{List, _++_}
 use Prim.Native.Nat.{ℕ, _+_, _-_, _*_, _%_, _≤_}
 use native.Mathlib.Nat.{add-sub-cancel-left}
 use native.Mathlib.Omega.{arith}
 use lib.ListN.{length, drop}
-use lib.Seq.{length-take-le, length-front}
 use Rattle.algebra.specs.Lists.{tab, grid}
 use Rattle.algebra.proofs.Grids.{rows-none, rows-more, rows-all}
 use Rattle.field.specs.declared.Modulus.{Modulus}
@@ -23,25 +22,27 @@ abbrev element : Modulus → Side → List ℕ → List ℕ → List ℕ → ℕ
 element modulus s weights xs masks i j = rowSums s weights xs masks i j % prime modulus
 
 abbrev Inv-loop : tie.InvT-loop
-Inv-loop modulus s weights xs masks out₀ rows columns sums₀ i₀ out sums i =
+Inv-loop modulus s weights xs masks sums₀ out₀ rows columns i₀ sums out i =
     record {
       short : i ≤ rows;
-      wide : length sums ≡ 4096;
+      wide : length sums ≡ columns;
       same : length out ≡ length out₀;
       is : out ≡ grid (element modulus s weights xs masks) i columns ++ drop (i * columns) out₀;
     }
 
 abbrev μ-loop : tie.MeasureT-loop
-μ-loop modulus s weights xs masks out₀ rows columns sums₀ i₀ out sums i = rows - i
+μ-loop modulus s weights xs masks sums₀ out₀ rows columns i₀ sums out i = rows - i
 
 loop-holds : tie.Need-loop-holds Inv-loop μ-loop
-loop-holds c = let a = c .before .before .before .before .args in record { short = omega arith; wide = refl; same = refl; is = rows-none _ (a .out .now) (a .s .columns) }
+loop-holds c =
+    let e = c .before .before .before .before .before in
+    record { short = omega arith; wide = e .pre .2; same = refl; is = rows-none _ (e .args .out .now) (e .args .s .columns) }
 
 -- row i of the output
 out-row : (c : tie.In-loop Inv-loop μ-loop)
-    → Part (c .before .loop .i * c .before .before .before .before .before .before .args .s .columns) (c .before .before .before .before .before .before .args .s .columns) (length (c .before .loop .out))
+    → Part (c .before .loop .i * c .before .before .before .before .before .before .before .args .s .columns) (c .before .before .before .before .before .before .before .args .s .columns) (length (c .before .loop .out))
 out-row c =
-    let e = c .before .before .before .before .before .before in
+    let e = c .before .before .before .before .before .before .before in
     block-row (e .args .s) (e .pre .0 .small) _ _ (c .loop-test .taken) (c .before .loop .inv .same ∙ e .pre .1)
 
 mul-start : tie.Need-mul-start Inv-loop μ-loop
@@ -49,18 +50,6 @@ mul-start c = out-row c .start-fits
 
 add-end : tie.Need-add-end Inv-loop μ-loop
 add-end c = out-row c .end-fits
-
--- there is a sum for each column
-sums-room : (c : tie.In-loop Inv-loop μ-loop) → c .before .before .before .before .before .before .args .s .columns ≤ length (c .before .loop .sums)
-sums-room c =
-    let e = c .before .before .before .before .before .before in
-    subst (λ (n : ℕ). e .args .s .columns ≤ n) (sym (c .before .loop .inv .wide)) (e .pre .0 .small .columns)
-
-array-borrow-prefix-sums : tie.Need-array-borrow-prefix-sums Inv-loop μ-loop
-array-borrow-prefix-sums c = sums-room c
-
-slice-aggregate-share-row : tie.Need-slice-aggregate-share-row Inv-loop μ-loop
-slice-aggregate-share-row c = sym (length-take-le _ _ (sums-room (c .before)))
 
 mul-share-row : tie.Need-mul-share-row Inv-loop μ-loop
 mul-share-row c = out-row (c .before) .place-fits
@@ -77,9 +66,9 @@ part-share-row-end c = out-row (c .before) .within
 share-row-requires : tie.Need-share-row-requires Inv-loop μ-loop
 share-row-requires c κs =
     let l = c .before .before in (
-      l .before .before .before .before .before .before .pre .0,
+      l .before .before .before .before .before .before .before .pre .0,
       l .loop-test .taken,
-      length-take-le _ _ (sums-room l) ∙ sym (part-length _ _ _ (out-row l .within)),
+      l .before .loop .inv .wide ∙ sym (part-length _ _ _ (out-row l .within)),
     )
 
 add-i : tie.Need-add-i Inv-loop μ-loop
@@ -90,14 +79,14 @@ loop-less c = omega arith
 
 loop-again : tie.Need-loop-again Inv-loop μ-loop
 loop-again c =
-    let l = c .before .before .before .before .before .before in
-    let a = l .before .before .before .before .before .before .args in
+    let l = c .before .before .before .before .before .before .before in
+    let a = l .before .before .before .before .before .before .before .args in
     let i = l .before .loop .i in
-    let call = c .before .before .before .share-row in
+    let call = c .before .before .before .before .share-row in
     let f = element (a .modulus) (a .s) (a .weights .now) (a .xs .now) (a .masks .now) in
     record {
       short = omega arith;
-      wide = length-front (l .before .loop .sums) (call .last .1 .1 .1 .1 .1 .1 .0) (a .s .columns) (c .before .before .sums2 .given) ∙ l .before .loop .inv .wide;
+      wide = omega arith;
       same = omega arith;
       is = rw add-sub-cancel-left (rows-more f (a .out .now) (l .before .loop .out) _ (a .s .columns) i (l .before .loop .inv .is)
           (call .ensures ∙ ap (tab (f i)) (part-length _ _ _ (out-row l .within))));
@@ -106,11 +95,14 @@ loop-again c =
 same-length : tie.Need-same-length Inv-loop μ-loop
 same-length c = omega arith
 
+same-length-2 : tie.Need-same-length-2 Inv-loop μ-loop
+same-length-2 c = omega arith
+
 returns : tie.Need-returns Inv-loop μ-loop
 unfolding blockLength
 returns c =
     let l = c .before in
-    let e = l .before .before .before .before .before in
+    let e = l .before .before .before .before .before .before in
     let a = e .args in
     let all : l .loop .i ≡ a .s .rows = omega arith in
     rows-all (element (a .modulus) (a .s) (a .weights .now) (a .xs .now) (a .masks .now)) (a .out .now) (l .loop .out) (a .s .rows) (a .s .columns) (e .pre .1)
@@ -125,8 +117,6 @@ share-rows-spec =
     loop-holds
     mul-start
     add-end
-    array-borrow-prefix-sums
-    slice-aggregate-share-row
     mul-share-row
     sub-share-row
     part-share-row-start
@@ -136,4 +126,5 @@ share-rows-spec =
     loop-less
     loop-again
     same-length
+    same-length-2
     returns)
