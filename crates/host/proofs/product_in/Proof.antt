@@ -24,20 +24,28 @@ element-count-requires-2 c κs = search needs
 element-count-requires-3 : tie.Need-element-count-requires-3
 element-count-requires-3 c κs = search needs
 
+-- the lists have room for the elements that are counted
+fit : (c : tie.After-element-count3)
+    → let a = c .before .before .before .before .before .before .before .before .before .before .before .before .before .before .before .before .before .args in
+    (c .before .before .element-count .result ≤ length (a .left .now)) × (c .before .element-count2 .result ≤ length (a .right .now)) × (c .element-count3 .result ≤ length (a .block .now))
+fit c =
+    let p = c .before .before .before .before .before .before .before .before .before .before .before .before .before .before .before .before .before .pre in
+    (le-trans (c .before .before .element-count .ensures .0) (p .0), le-trans (c .before .element-count2 .ensures .0) (p .1), le-trans (c .element-count3 .ensures .0) (p .2))
+
 slice-reshare-prefix-product : tie.Need-slice-reshare-prefix-product
-slice-reshare-prefix-product c = search needs
+slice-reshare-prefix-product c = rw (c .before .before .before .before .before .before .before .before .left .given) (fit c .0)
 
 slice-aggregate-product : tie.Need-slice-aggregate-product
 slice-aggregate-product c = sym (length-take-le _ _ (slice-reshare-prefix-product (c .before)))
 
 slice-reshare-prefix-product-2 : tie.Need-slice-reshare-prefix-product-2
-slice-reshare-prefix-product-2 c = search needs
+slice-reshare-prefix-product-2 c = rw (c .before .before .before .before .before .right .given) (fit (c .before) .1)
 
 slice-aggregate-product-2 : tie.Need-slice-aggregate-product-2
 slice-aggregate-product-2 c = sym (length-take-le _ _ (slice-reshare-prefix-product-2 (c .before)))
 
 slice-relend-prefix-product : tie.Need-slice-relend-prefix-product
-slice-relend-prefix-product c = search needs
+slice-relend-prefix-product c = fit (c .before .before) .2
 
 slice-aggregate-product-3 : tie.Need-slice-aggregate-product-3
 slice-aggregate-product-3 c = sym (length-take-le _ _ (slice-relend-prefix-product (c .before)))
@@ -46,7 +54,7 @@ product-requires : tie.Need-product-requires
 product-requires c κs = search needs
 
 slice-reshare-prefix-write-elements : tie.Need-slice-reshare-prefix-write-elements
-slice-reshare-prefix-write-elements c = search needs
+slice-reshare-prefix-write-elements c = rw (c .before .before .block .given .1) (fit (c .before .before .before .before .before .before .before) .2)
 
 slice-aggregate-write-elements : tie.Need-slice-aggregate-write-elements
 slice-aggregate-write-elements c = sym (length-take-le _ _ (slice-reshare-prefix-write-elements (c .before)))
@@ -65,14 +73,6 @@ same-length-3 c = search needs
 
 same-length-4 : tie.Need-same-length-4
 same-length-4 c = search needs
-
--- the lists have room for the elements that are counted
-fit : (c : tie.After-element-count3)
-    → let a = c .before .before .before .before .before .before .before .before .before .before .before .before .before .before .before .before .before .args in
-    (c .before .before .element-count .result ≤ length (a .left .now)) × (c .before .element-count2 .result ≤ length (a .right .now)) × (c .element-count3 .result ≤ length (a .block .now))
-fit c =
-    let p = c .before .before .before .before .before .before .before .before .before .before .before .before .before .before .before .before .before .pre in
-    (le-trans (c .before .before .element-count .ensures .0) (p .0), le-trans (c .before .element-count2 .ensures .0) (p .1), le-trans (c .element-count3 .ensures .0) (p .2))
 
 returns : tie.Need-returns
 returns c =

@@ -6,7 +6,7 @@ use Rattle.product.proofs.multiply.Statement.{statement}
 use Rattle.product.proofs.multiply.Tie as tie
 
 array-borrow-prefix-few : tie.Need-array-borrow-prefix-few
-array-borrow-prefix-few c = search needs
+array-borrow-prefix-few c = c .if1 .taken
 
 slice-aggregate-multiply-rows : tie.Need-slice-aggregate-multiply-rows
 slice-aggregate-multiply-rows c = sym (length-take-le _ _ (array-borrow-prefix-few (c .before)))
@@ -15,7 +15,7 @@ multiply-rows-requires : tie.Need-multiply-rows-requires
 multiply-rows-requires c κs = (c .before .before .before .before .before .before .pre, length-take-le _ _ (array-borrow-prefix-few (c .before .before)))
 
 array-borrow-prefix-many : tie.Need-array-borrow-prefix-many
-array-borrow-prefix-many c = search needs
+array-borrow-prefix-many c = c .before .before .before .before .pre .thin
 
 slice-aggregate-multiply-rows-2 : tie.Need-slice-aggregate-multiply-rows-2
 slice-aggregate-multiply-rows-2 c = sym (length-take-le _ _ (array-borrow-prefix-many (c .before)))

@@ -6,7 +6,7 @@ use Rattle.share.proofs.share_weighed.Statement.{statement}
 use Rattle.share.proofs.share_weighed.Tie as tie
 
 array-borrow-prefix-few : tie.Need-array-borrow-prefix-few
-array-borrow-prefix-few c = search needs
+array-borrow-prefix-few c = c .if1 .taken
 
 slice-aggregate-share-rows : tie.Need-slice-aggregate-share-rows
 slice-aggregate-share-rows c = sym (length-take-le _ _ (array-borrow-prefix-few (c .before)))
