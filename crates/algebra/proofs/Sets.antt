@@ -1,6 +1,5 @@
 -- Laws of sets of whole numbers.
 --
---   size-le            there are at most n of them
 --   members-in         each member is in the set
 --   members-has        each number below n that is in the set is a member
 --   members-below      each member is below n
@@ -54,10 +53,6 @@ module _ (g : ℕ → Bool) where
         ⊎-elim (λ (e : g n ≡ true). subst (λ (xs : List ℕ). P (suc n) xs) (sym (more-in n e)) (own n (members g n) e (each n)))
         (λ (e : g n ≡ false). subst (λ (xs : List ℕ). P (suc n) xs) (sym (more-out n e)) (other n (members g n) e (each n)))
         (by-test (g n))
-
-  pub size-le : (n : ℕ) → size g n ≤ n
-  unfolding size
-  size-le = each (λ n xs. length xs ≤ n) (omega arith) (λ n xs e h. omega (arith, length-last xs n)) (λ n xs e h. omega arith)
 
   pub members-in : (n i : ℕ) → i < size g n → g (getD (members g n) i 0) ≡ true
   unfolding size

@@ -1,7 +1,7 @@
 -- What the calls answer and leave, by their tests.
 --
 --   written-done, written-refused    what writing leaves
---   examined-number, read-number     the number of an answer is that of the first test that fits
+--   read-number                      the number of an answer is that of the first test that fits
 --   read-short                       the output of reading is too short
 --   read-long                        it is long enough: reading tells what looking over does
 --   read-done                        what reading then leaves
@@ -34,10 +34,6 @@ number-told h zero = refl
 number-told h (suc n) = refl
 
 module _ (message : List ℕ) where
-  pub examined-number : numberOf (examined message) ≡ first (messageTests message)
-  unfolding examined
-  examined-number = number-told (headerOf message) (first (messageTests message))
-
   module _ (room : ℕ) where
     pub read-number : numberOf (readAs message room) ≡ first (readTests message room)
     unfolding readAs

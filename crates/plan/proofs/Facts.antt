@@ -41,7 +41,6 @@ pub record Fits (job : Job) : Type 0 where
   pub block-c : blockRows job * blockColumns job ≤ 4096
   pub hosts-low : 1 ≤ job .hosts
   pub hosts-high : job .hosts ≤ 64
-  pub hosts-below : job .hosts < prime job
   pub enough : neededOf job ≤ job .hosts
 
 pub record Facts (job : Job) (points : List ℕ) : Type 0 where
@@ -74,7 +73,6 @@ module _ (job : Job) (modulus : noModulus (job .modulus) ≡ false) (range : fir
         block-c = small .2;
         hosts-low = inside-low 1 64 _ (or-left h1 h2 (hosts .0));
         hosts-high = inside-high 1 64 _ (or-left h1 h2 (hosts .0));
-        hosts-below = leb-false (prime job) _ (or-right h1 h2 (hosts .0));
         enough = ltb-false (job .hosts) _ (needed .0);
       }
 

@@ -3,20 +3,18 @@
 --   judged     the number of a list of tests
 --   demand-1   the demand holds
 use mathlib.Core.Path.{_≡_, refl, sym, ap, _∙_, subst}
-use mathlib.Core.Bool.{Bool, true, false, not, cond, _&&_, true≢false}
-use mathlib.Core.Logic.{_↔_, ⊎-elim}
+use mathlib.Core.Bool.{true, false, not, true≢false}
 use mathlib.Core.List.{List, [], _∷_, _++_}
 use Prim.Native.Nat.{ℕ, zero, suc, _<_, suc-le-suc}
 use native.Mathlib.Nat.{not-suc-le-zero, le-of-suc-le-suc, zero-lt-suc, suc-ne-zero}
 use lib.Dec.{T, eqb}
 use lib.ListN.{length}
-use Rattle.algebra.proofs.Tests.{and-left, and-right}
+use Rattle.algebra.proofs.Tests.{and-right}
 use Rattle.refusal.specs.Chain.{Row, first, answer}
 use Rattle.refusal.proofs.Chains.{numbered, numbered-append, answer-done, answer-refused}
 use Rattle.plan.specs.declared.Job.{Job}
-use Rattle.plan.specs.declared.Planned.the-variants.{Accepted, Refused}
-use Rattle.plan.specs.Planning.{planTests, planOf, planned}
-use Rattle.plan.specs.Planning.{numberOf as Planning·numberOf}
+use Rattle.plan.specs.Planning.{planTests}
+use Rattle.plan.proofs.Answers.{plan-number}
 use Rattle.plan.proofs.Then.{plan-numbered}
 use Rattle.share.specs.Sharing.{ownTests, shareTests, shareAfter}
 use Rattle.product.specs.Product.{productTests, productAfter}
@@ -62,15 +60,7 @@ leaves n done was e = record {
   refused = λ ne. answer-refused done (λ k. was) n (λ z. ne (e ∙ z));
 }
 
--- the numbers that planning and arrivals answer with
-planned-number : (job : Job) (points : List ℕ) → Planning·numberOf (planned job points) ≡ first (planTests job points)
-unfolding planned answer
-planned-number job points = go (first (planTests job points))
-  where
-    go : (n : ℕ) → Planning·numberOf (answer n (Accepted (planOf job)) Refused) ≡ n
-    go zero = refl
-    go (suc n) = refl
-
+-- the number that an arrival answers with
 module _ (job : Job) (points : List ℕ) (heard : ℕ) (store message : List ℕ) where
   arrived-number : Arriving·numberOf (arrived job points heard store message) ≡ first (arrivalTests job points heard (length store) message)
   unfolding arrived answer
@@ -95,7 +85,7 @@ after-plan job points rows t = judged _ (numbered-append (planTests job points) 
 pub demand-1 : Demand1
 unfolding shareTests ownTests shareAfter productTests productAfter fieldTests writeTests messageTests headerTests readTests written readInto stateTests Arriving·ownTests arrivalTests storeAfter decodeTests tableAfter numbered
 demand-1 = record {
-  plan = λ job points. subst (Judged (planTests job points)) (sym (planned-number job points)) (judged (planTests job points) (plan-numbered job points));
+  plan = λ job points. subst (Judged (planTests job points)) (sym (plan-number job points)) (judged (planTests job points) (plan-numbered job points));
   share = λ m job points host xs ms out. (after-plan job points _ tt, leaves _ _ _ refl);
   product = λ n rows inner columns a b out. (judged _ tt, leaves _ _ _ refl);
   write = λ h xs out. (judged _ tt, leaves _ _ _ refl);

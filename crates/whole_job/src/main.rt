@@ -689,16 +689,12 @@ fn run_with_matrices(job: Job, plan: Plan, points: &[u32], a: &[u32], b: &[u32],
     run_with_shares(job, plan, points, b, &shares_a, &rest[n..]);
 }
 
-// Takes B off the numbers that are left, and goes on.
-fn run_with_a(job: Job, plan: Plan, points: &[u32], a: &[u32], rest: &[u32]) {
-    let n = least(area(job.s, job.r), rest.len());
-    run_with_matrices(job, plan, points, a, &rest[..n], &rest[n..]);
-}
-
-// Takes A off the numbers that are left, and goes on. What the text is short of is refused as a length, 13.
+// Takes A and B off the numbers that are left, and goes on. What the text is short of is refused as a length, 13.
 fn run_planned(job: Job, plan: Plan, points: &[u32], rest: &[u32]) {
-    let n = least(area(job.t, job.s), rest.len());
-    run_with_a(job, plan, points, &rest[..n], &rest[n..]);
+    let a = least(area(job.t, job.s), rest.len());
+    let after = &rest[a..];
+    let b = least(area(job.s, job.r), after.len());
+    run_with_matrices(job, plan, points, &rest[..a], &after[..b], &after[b..]);
 }
 
 // Plans the job of some numbers and goes on, or prints the number of the refusal.

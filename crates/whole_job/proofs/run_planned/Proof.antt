@@ -12,23 +12,44 @@ area-requires c κs = search needs
 least-requires : tie.Need-least-requires
 least-requires c κs = search needs
 
-slice-aggregate-run-with-a : tie.Need-slice-aggregate-run-with-a
-slice-aggregate-run-with-a c = sym (length-take-le _ _ (omega arith))
+mul-after : tie.Need-mul-after
+mul-after c = search needs
 
-mul-run-with-a : tie.Need-mul-run-with-a
-mul-run-with-a c = search needs
+sub-after : tie.Need-sub-after
+sub-after c = search needs
 
-sub-run-with-a : tie.Need-sub-run-with-a
-sub-run-with-a c = search needs
+part-after-start : tie.Need-part-after-start
+part-after-start c = search needs
 
-part-run-with-a-start : tie.Need-part-run-with-a-start
-part-run-with-a-start c = search needs
+part-after-end : tie.Need-part-after-end
+part-after-end c = search needs
 
-part-run-with-a-end : tie.Need-part-run-with-a-end
-part-run-with-a-end c = search needs
+area-requires-2 : tie.Need-area-requires-2
+area-requires-2 c κs = search needs
 
-run-with-a-requires : tie.Need-run-with-a-requires
-run-with-a-requires c κs = search needs
+least-requires-2 : tie.Need-least-requires-2
+least-requires-2 c κs = search needs
+
+slice-aggregate-run-with-matrices : tie.Need-slice-aggregate-run-with-matrices
+slice-aggregate-run-with-matrices c = sym (length-take-le _ _ (omega arith))
+
+slice-aggregate-run-with-matrices-2 : tie.Need-slice-aggregate-run-with-matrices-2
+slice-aggregate-run-with-matrices-2 c = sym (length-take-le _ _ (omega arith))
+
+mul-run-with-matrices : tie.Need-mul-run-with-matrices
+mul-run-with-matrices c = search needs
+
+sub-run-with-matrices : tie.Need-sub-run-with-matrices
+sub-run-with-matrices c = search needs
+
+part-run-with-matrices-start : tie.Need-part-run-with-matrices-start
+part-run-with-matrices-start c = search needs
+
+part-run-with-matrices-end : tie.Need-part-run-with-matrices-end
+part-run-with-matrices-end c = search needs
+
+run-with-matrices-requires : tie.Need-run-with-matrices-requires
+run-with-matrices-requires c κs = search needs
 
 returns : tie.Need-returns
 returns c = search needs
@@ -39,10 +60,17 @@ run-planned-spec =
     (tie.spec
     area-requires
     least-requires
-    slice-aggregate-run-with-a
-    mul-run-with-a
-    sub-run-with-a
-    part-run-with-a-start
-    part-run-with-a-end
-    run-with-a-requires
+    mul-after
+    sub-after
+    part-after-start
+    part-after-end
+    area-requires-2
+    least-requires-2
+    slice-aggregate-run-with-matrices
+    slice-aggregate-run-with-matrices-2
+    mul-run-with-matrices
+    sub-run-with-matrices
+    part-run-with-matrices-start
+    part-run-with-matrices-end
+    run-with-matrices-requires
     returns)
