@@ -1,7 +1,6 @@
 -- What the test of a side and of lengths tells.
 --
 --   within           a side that is not beyond the limits keeps them
---   small-within     one that keeps them is not beyond
 --   Exact, exact     the lengths that pass their test
 --   Fit, fit         a side and lengths that are not unfit: the limits are kept, the lengths exact
 --   only-lengths     of a side that keeps the limits, only the lengths are tested
@@ -30,7 +29,8 @@ pub record Fit (s : Side) (xs ms room : ℕ) : Type 0 where
   pub exact : Exact s xs ms room
 
 module _ (s : Side) where
-  pub small-within : Small s → beyond s ≡ false
+  -- a side that keeps the limits is not beyond them
+  small-within : Small s → beyond s ≡ false
   unfolding beyond outside blockLength
   small-within small =
       rw (le-ltb 4096 _ (small .rows), le-ltb 4096 _ (small .columns), le-ltb 8 _ (small .down), le-ltb 8 _ (small .across), le-ltb _ 1 (small .masked), le-ltb 16 _ (small .count), le-ltb 4096 _ (small .block))
@@ -60,6 +60,7 @@ module _ (s : Side) where
         let each = or-all (not (eqb xs (matrixLength s))) (not (eqb ms (maskLength s))) (not (eqb room (blockLength s))) e in
         record { matrix = equal _ _ (each .0); masks = equal _ _ (each .1); out = equal _ _ (each .2) }
 
+    -- exact lengths pass their test
     passes : Exact s xs ms room → lengthTest s xs ms room ≡ false
     unfolding lengthTest
     passes x = rw (alike _ _ (x .matrix), alike _ _ (x .masks), alike _ _ (x .out))

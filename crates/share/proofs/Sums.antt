@@ -1,7 +1,8 @@
 -- The sums of weighted rows are those of the sheet's formula, and fit 64 bits.
 --
---   weights-below   the weights are below q
---   share-exact     the encoded block is the share
+--   Below q w xs ms  weights, a matrix and masks are below q
+--   weights-below    the weights are below q
+--   share-exact      the encoded block is the share
 use mathlib.Core.Path.{_≡_, ap, _∙_}
 use mathlib.Core.List.{List, _++_, append-assoc}
 use Prim.Native.Nat.{ℕ, _+_, _*_, _%_, _^_, _<_, _≤_}
@@ -45,12 +46,12 @@ module _ (q : ℕ) (s : Side) (w : List ℕ) (pos : 0 < q) (hw : AllBelow q w) w
   unfolding maskTerms
   masks-bound ms h i j = part-bound q w ms pos hw h (s .count) (s .down * s .across) (i * s .columns) (s .rows * s .columns) j
 
--- weights, a matrix and masks below the prime: at most 80 products of elements are summed
 pub record Below (q : ℕ) (w xs ms : List ℕ) : Type 0 where
   pub weights : AllBelow q w
   pub matrix : AllBelow q xs
   pub masks : AllBelow q ms
 
+-- at most 80 products of elements are summed
 row-fits : (m : Modulus) (s : Side) (w xs ms : List ℕ) → Small s → Below (prime m) w xs ms → (i j : ℕ) → rowSums s w xs ms i j < 2 ^ 64
 unfolding rowSums
 row-fits m s w xs ms small b i j =
