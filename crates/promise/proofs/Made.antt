@@ -32,8 +32,8 @@ use Rattle.plan.proofs.Then.{then-own}
 use Rattle.weights.specs.declared.Matrix.{Matrix}
 use Rattle.weights.specs.declared.Matrix.the-variants.{A, B}
 use Rattle.weights.specs.Weights.{side}
-use Rattle.share.specs.Sharing.{shareOf, hostShare, blockLength, matrixLength, maskLength, ownTests, shareTests, shareAfter}
-use Rattle.share.specs.Sharing.{lengthTest as Sharing·lengthTest}
+use Rattle.encoding.specs.Encoding.{blockLength, matrixLength, maskLength, lengthTest as Encoding·lengthTest}
+use Rattle.share.specs.Sharing.{shareOf, hostShare, ownTests, shareTests, shareAfter}
 use Rattle.product.specs.Product.{productOf, lengthTest, productTests, productAfter}
 use Rattle.header.specs.declared.Header.{Header}
 use Rattle.header.specs.Header.{elementCount, kindTest, hostTest, sizeTest, blockTest, fieldTests}
@@ -96,7 +96,7 @@ module _ (x : Task) (ok : Accepted x) (i : ℕ) (low : i < x .numbers .hosts) wh
 
   pub share-done : (m : Matrix) (ms out : List ℕ) → Masks m x ms → length out ≡ blockLength (side m (planOf (x .numbers)))
       → first (shareTests m (x .numbers) (x .points) (suc i) (matrix m x) ms (length out)) ≡ 0
-  unfolding shareTests ownTests Sharing·lengthTest q
+  unfolding shareTests ownTests Encoding·lengthTest q
   share-done m ms out masks room =
       let s = side m (planOf (x .numbers)) in
       then-own (x .numbers) (x .points) _ (ok .planned)

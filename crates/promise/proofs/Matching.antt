@@ -25,7 +25,8 @@ use Rattle.algebra.proofs.Sums.{sum-≈, sum-add}
 use Rattle.algebra.proofs.Grids.{grid-cong}
 use Rattle.layout.specs.Exponents.{Exponents, term}
 use Rattle.weights.specs.declared.Side.{Side}
-use Rattle.share.specs.Sharing.{blockEntry, maskEntry, shareEntry, shareOf, blockLength, maskLength}
+use Rattle.encoding.specs.Encoding.{blockLength, maskLength}
+use Rattle.share.specs.Sharing.{blockEntry, maskEntry, shareEntry, shareOf}
 use Rattle.promise.proofs.Solvable.{Solvable}
 
 pub moved : ℕ → ℕ → (ℕ → ℕ) → List ℕ → List ℕ

@@ -21,8 +21,8 @@ use Rattle.plan.specs.Planning.{sizeTest, cutTest, groupTest, divisionTest, blo
 use Rattle.plan.specs.Planning.{member, pointRows, pointsRows, pointTests, planTests, planned}
 use Rattle.product.specs.Product.{productEntry, productOf, lengthTest, productTests, productAfter}
 use Rattle.weights.specs.Weights.{side}
-use Rattle.share.specs.Sharing.{blockEntry, maskEntry, shareEntry, shareOf, point, hostShare, blockLength, matrixLength, maskLength, ownTests, shareTests, shareAfter}
-use Rattle.share.specs.Sharing.{lengthTest as Sharing·lengthTest}
+use Rattle.encoding.specs.Encoding.{blockLength, matrixLength, maskLength, lengthTest as Encoding·lengthTest}
+use Rattle.share.specs.Sharing.{blockEntry, maskEntry, shareEntry, shareOf, point, hostShare, ownTests, shareTests, shareAfter}
 use lib.Count.{ones, onesIn}
 use Rattle.algebra.specs.Lists.{stack}
 use Rattle.algebra.specs.Sets.{members}
@@ -61,7 +61,7 @@ all-right (l ∷ ls) t (suc i) h = all-right ls (and-right (same (l .0) (l .1)) 
 
 -- the planning definitions, opened to compute
 computed : T (right starred)
-unfolding right same starred answered plan thresholds smallest jobWith tab first answer outside anyOutside sizesOutside overBlock moduli modulus noModulus named exponents layout1 layout2 strideD strideE better choice parameters prime modulusOf blockRows blockInner blockColumns layoutOf neededOf planOf sizeTest cutTest groupTest divisionTest blockTest hostsTest neededTest rangeTests fitTests member pointRows pointsRows pointTests planTests planned sum grid entry allBelow term productEntry productOf lengthTest productTests productAfter side blockEntry maskEntry shareEntry shareOf point hostShare blockLength matrixLength maskLength Sharing·lengthTest ownTests shareTests shareAfter share Starred·answer decoded reading stack members basis scale add addRoot coefficient inverse last ones onesIn isHeard someAbove lowest answerLength storeLength blockAt answerEntry chosen tableEntry blocks tableOf tableLength heardBelow decodeTests tableAfter half signed signedTests signedAnswer
+unfolding right same starred answered plan thresholds smallest jobWith tab first answer outside anyOutside sizesOutside overBlock moduli modulus noModulus named exponents layout1 layout2 strideD strideE better choice parameters prime modulusOf blockRows blockInner blockColumns layoutOf neededOf planOf sizeTest cutTest groupTest divisionTest blockTest hostsTest neededTest rangeTests fitTests member pointRows pointsRows pointTests planTests planned sum grid entry allBelow term productEntry productOf lengthTest productTests productAfter side blockEntry maskEntry shareEntry shareOf point hostShare blockLength matrixLength maskLength Encoding·lengthTest ownTests shareTests shareAfter share Starred·answer decoded reading stack members basis scale add addRoot coefficient inverse last ones onesIn isHeard someAbove lowest answerLength storeLength blockAt answerEntry chosen tableEntry blocks tableOf tableLength heardBelow decodeTests tableAfter half signed signedTests signedAnswer
 computed = tt
 
 pub starred-right : Right starred

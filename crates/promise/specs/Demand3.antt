@@ -34,7 +34,8 @@ use Rattle.plan.specs.Planning.{prime, blockRows, blockInner, blockColumns, nee
 use Rattle.weights.specs.declared.Matrix.{Matrix}
 use Rattle.weights.specs.declared.Matrix.the-variants.{A, B}
 use Rattle.weights.specs.Weights.{side}
-use Rattle.share.specs.Sharing.{hostShare, maskLength, blockLength, shareAfter}
+use Rattle.encoding.specs.Encoding.{maskLength, blockLength}
+use Rattle.share.specs.Sharing.{hostShare, shareAfter}
 use Rattle.product.specs.Product.{productOf, productAfter}
 use Rattle.header.specs.declared.Header.{Header}
 use Rattle.header.specs.Header.{elementCount}

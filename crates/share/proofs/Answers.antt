@@ -8,11 +8,9 @@ use mathlib.Core.Path.{_≡_, sym, ap, _∙_}
 use mathlib.Core.Bool.{not}
 use mathlib.Core.List.{List}
 use Prim.Native.Nat.{ℕ, _≤_}
-use lib.Dec.{eqb}
 use lib.ListN.{length}
 use borrow.Author.Tests.{not-false}
 use Rattle.algebra.specs.Lists.{AllBelow, allBelow}
-use Rattle.algebra.proofs.Tests.{or-all, equal}
 use Rattle.algebra.proofs.Lists.{all-below-test}
 use Rattle.refusal.specs.Chain.{first, answer, outside}
 use Rattle.refusal.proofs.Chains.{first-clear, answer-done, answer-refused, inside-low, inside-high}
@@ -23,9 +21,10 @@ use Rattle.plan.proofs.Sizes.{sizes}
 use Rattle.weights.specs.declared.Matrix.{Matrix}
 use Rattle.weights.specs.declared.Matrix.the-variants.{A, B}
 use Rattle.weights.specs.declared.Side.{Side}
-use Rattle.weights.specs.Weights.{side}
-use Rattle.share.specs.Sharing.{hostShare, blockLength, matrixLength, maskLength, lengthTest, ownTests, shareTests, shareAfter}
-use Rattle.weights.specs.Weights.{Small}
+use Rattle.weights.specs.Weights.{Small, side}
+use Rattle.encoding.specs.Encoding.{lengthTest}
+use Rattle.encoding.proofs.Fitting.{Exact, exact}
+use Rattle.share.specs.Sharing.{hostShare, ownTests, shareTests, shareAfter}
 
 pub side-small : (m : Matrix) (job : Job) → Fits job → Small (side m (planOf job))
 unfolding side planOf parameters
@@ -41,27 +40,22 @@ side-small B job f =
 pub record Passed (q hosts : ℕ) (s : Side) (host : ℕ) (xs ms : List ℕ) (room : ℕ) : Type 0 where
   pub low : 1 ≤ host
   pub high : host ≤ hosts
-  pub matrix : length xs ≡ matrixLength s
-  pub masks : length ms ≡ maskLength s
-  pub out : room ≡ blockLength s
+  pub lengths : Exact s (length xs) (length ms) room
   pub below-matrix : AllBelow q xs
   pub below-masks : AllBelow q ms
 
 pub passed : (q hosts : ℕ) (s : Side) (host : ℕ) (xs ms : List ℕ) (room : ℕ) → first (ownTests q hosts s host xs ms room) ≡ 0
     → Passed q hosts s host xs ms room
-unfolding ownTests lengthTest
+unfolding ownTests
 passed q hosts s host xs ms room e =
     let who = first-clear (outside 1 hosts host) 11 _ e in
     let len = first-clear (lengthTest s (length xs) (length ms) room) 12 _ (who .1) in
     let elements = first-clear (not (allBelow q xs)) 13 _ (len .1) in
     let masks = first-clear (not (allBelow q ms)) 14 _ (elements .1) in
-    let each = or-all (not (eqb (length xs) (matrixLength s))) (not (eqb (length ms) (maskLength s))) (not (eqb room (blockLength s))) (len .0) in
     record {
       low = inside-low 1 hosts host (who .0);
       high = inside-high 1 hosts host (who .0);
-      matrix = equal _ _ (each .0);
-      masks = equal _ _ (each .1);
-      out = equal _ _ (each .2);
+      lengths = exact s (length xs) (length ms) room (len .0);
       below-matrix = all-below-test q xs (not-false (allBelow q xs) (elements .0));
       below-masks = all-below-test q ms (not-false (allBelow q ms) (masks .0));
     }

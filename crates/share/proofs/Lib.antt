@@ -1,5 +1,3 @@
--- Laws of sharing: places, sums and rows.
-pub mod Places
+-- Laws of sharing: sums and answers.
 pub mod Sums
-pub mod Rows
 pub mod Answers

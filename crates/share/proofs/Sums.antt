@@ -1,8 +1,8 @@
 -- The sums of weighted rows are those of the sheet's formula, and fit 64 bits.
 --
---   weights-below   the weights are below q
---   share-exact     the sums modulo q are the share
---   row-fits        at most 80 products of elements are summed
+--   Below q w xs ms  weights, a matrix and masks are below q
+--   weights-below    the weights are below q
+--   share-exact      the encoded block is the share
 use mathlib.Core.Path.{_≡_, ap, _∙_}
 use mathlib.Core.List.{List, _++_, append-assoc}
 use Prim.Native.Nat.{ℕ, _+_, _*_, _%_, _^_, _<_, _≤_}
@@ -24,9 +24,43 @@ use Rattle.layout.specs.Exponents.{Exponents, term}
 use Rattle.rows.specs.Combination.{combination}
 use Rattle.rows.proofs.Exact.{combination-below}
 use Rattle.weights.specs.declared.Side.{Side}
+use Rattle.weights.specs.Weights.{Small, weightsOf}
+use Rattle.encoding.specs.Encoding.{blockTerms, maskTerms, rowSums, encodedBlock}
 use Rattle.share.specs.Sharing.{blockEntry, maskEntry, shareEntry, shareOf}
-use Rattle.weights.specs.Weights.{weightsOf}
-use Rattle.share.specs.Rows.{Ready, blockTerms, maskTerms, rowSums}
+
+-- a combination of n weights, of many, with rows from some place on
+part-bound : (q : ℕ) (w source : List ℕ) → 0 < q → AllBelow q w → AllBelow q source → (n k start stride j : ℕ)
+    → combination (take n (drop k w)) (drop start source) stride j ≤ n * (q * q)
+part-bound q w source pos hw hs n k start stride j =
+    le-trans (combination-below (take n (drop k w)) (drop start source) stride j q pos (below-part q w hw n k) (below-drop q source hs start))
+    (mul-le-mul-right (q * q) (omega (arith, length-take n (drop k w))))
+
+module _ (q : ℕ) (s : Side) (w : List ℕ) (pos : 0 < q) (hw : AllBelow q w) where
+  blocks-bound : (xs : List ℕ) → AllBelow q xs → (i j : ℕ) → blockTerms s w xs i j ≤ s .down * (s .across * (q * q))
+  unfolding blockTerms
+  blocks-bound xs h i j =
+      sum-bound (s .down) (s .across * (q * q)) _ (λ k l.
+      part-bound q w xs pos hw h (s .across) (k * s .across) ((k * s .rows + i) * (s .across * s .columns)) (s .columns) j)
+
+  masks-bound : (ms : List ℕ) → AllBelow q ms → (i j : ℕ) → maskTerms s w ms i j ≤ s .count * (q * q)
+  unfolding maskTerms
+  masks-bound ms h i j = part-bound q w ms pos hw h (s .count) (s .down * s .across) (i * s .columns) (s .rows * s .columns) j
+
+pub record Below (q : ℕ) (w xs ms : List ℕ) : Type 0 where
+  pub weights : AllBelow q w
+  pub matrix : AllBelow q xs
+  pub masks : AllBelow q ms
+
+-- at most 80 products of elements are summed
+row-fits : (m : Modulus) (s : Side) (w xs ms : List ℕ) → Small s → Below (prime m) w xs ms → (i j : ℕ) → rowSums s w xs ms i j < 2 ^ 64
+unfolding rowSums
+row-fits m s w xs ms small b i j =
+    let q : ℕ = prime m in
+    let pos : 0 < q = omega (arith, prime-prime m .above-one) in
+    let few : s .down * s .across + s .count ≤ 80 = omega (arith, mul-le-mul (small .down) (small .across), small .count) in
+    let blocks = blocks-bound q s w pos (b .weights) xs (b .matrix) i j in
+    let masks = masks-bound q s w pos (b .weights) ms (b .masks) i j in
+    omega (arith, sums-fit m, mul-le-mul-right (q * q) few)
 
 -- a combination whose weights are those of g modulo q, and whose elements in column j are those of h
 weighted : (q n : ℕ) (g h : ℕ → ℕ) (weights source : List ℕ) (stride j : ℕ) → weights ≡ tab (λ l. g l % q) n
@@ -106,35 +140,12 @@ module _ (q : ℕ) (e : Exponents) (s : Side) (x : ℕ) where
     unfolding rowSums shareEntry block mask
     sums-≈ i j = ≈-add (blocks-≈ i j) (masks-≈ i j)
 
-    pub share-exact : grid (λ i j. rowSums s w xs ms i j % q) (s .rows) (s .columns) ≡ shareOf q e s x xs ms
-    unfolding shareOf
-    share-exact =
-        grid-cong (λ i j. rowSums s w xs ms i j % q) (λ i j. shareEntry e s x xs ms i j % q) (s .rows) (s .columns) (λ i j a b. sums-≈ i j .same)
-
--- a combination of n weights, of many, with rows from some place on
-part-bound : (q : ℕ) (w source : List ℕ) → 0 < q → AllBelow q w → AllBelow q source → (n k start stride j : ℕ)
-    → combination (take n (drop k w)) (drop start source) stride j ≤ n * (q * q)
-part-bound q w source pos hw hs n k start stride j =
-    le-trans (combination-below (take n (drop k w)) (drop start source) stride j q pos (below-part q w hw n k) (below-drop q source hs start))
-    (mul-le-mul-right (q * q) (omega (arith, length-take n (drop k w))))
-
-module _ (q : ℕ) (s : Side) (w : List ℕ) (pos : 0 < q) (hw : AllBelow q w) where
-  blocks-bound : (xs : List ℕ) → AllBelow q xs → (i j : ℕ) → blockTerms s w xs i j ≤ s .down * (s .across * (q * q))
-  unfolding blockTerms
-  blocks-bound xs h i j =
-      sum-bound (s .down) (s .across * (q * q)) _ (λ k l.
-      part-bound q w xs pos hw h (s .across) (k * s .across) ((k * s .rows + i) * (s .across * s .columns)) (s .columns) j)
-
-  masks-bound : (ms : List ℕ) → AllBelow q ms → (i j : ℕ) → maskTerms s w ms i j ≤ s .count * (q * q)
-  unfolding maskTerms
-  masks-bound ms h i j = part-bound q w ms pos hw h (s .count) (s .down * s .across) (i * s .columns) (s .rows * s .columns) j
-
-pub row-fits : (m : Modulus) (s : Side) (w xs ms : List ℕ) → Ready (prime m) s w xs ms → (i j : ℕ) → rowSums s w xs ms i j < 2 ^ 64
-unfolding rowSums
-row-fits m s w xs ms r i j =
-    let q : ℕ = prime m in
-    let pos : 0 < q = omega (arith, prime-prime m .above-one) in
-    let few : s .down * s .across + s .count ≤ 80 = omega (arith, mul-le-mul (r .small .down) (r .small .across), r .small .count) in
-    let blocks = blocks-bound q s w pos (r .below-weights) xs (r .below-matrix) i j in
-    let masks = masks-bound q s w pos (r .below-weights) ms (r .below-masks) i j in
-    omega (arith, sums-fit m, mul-le-mul-right (q * q) few)
+-- the sums are not cut at 64 bits
+module _ (m : Modulus) (e : Exponents) (s : Side) (x : ℕ) (small : Small s) where
+  pub share-exact : (w rest xs ms : List ℕ) → w ≡ weightsOf (prime m) e s x ++ rest → Below (prime m) w xs ms → encodedBlock (prime m) s w xs ms ≡ shareOf (prime m) e s x xs ms
+  unfolding encodedBlock shareOf
+  share-exact w rest xs ms is below =
+      grid-cong _ (λ i j. shareEntry e s x xs ms i j % prime m) (s .rows) (s .columns) (λ i j a b.
+      let fits = row-fits m s w xs ms small below i j in
+      let whole : rowSums s w xs ms i j % 2 ^ 64 ≡ rowSums s w xs ms i j = omega arith in
+      ap (λ (n : ℕ). n % prime m) whole ∙ sums-≈ (prime m) e s x w rest xs ms is i j .same)

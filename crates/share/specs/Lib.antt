@@ -1,3 +1,2 @@
 -- Sharing: a matrix goes out as one masked block to each host.
 pub mod Sharing
-pub mod Rows

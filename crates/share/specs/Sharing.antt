@@ -7,13 +7,11 @@
 --   shareOf q e s x xs ms          == the share: these sums modulo q, row by row
 --   point points host              == the point of a host, numbered from 1
 --   hostShare m job points host .. == the share of a host
---   matrixLength, maskLength, blockLength == how many elements a matrix, all its masks and a block have
 --   ownTests, shareTests           == the tests of sharing that are its own, 12 to 15, and all of them, the plan's first
 --   shareAfter                     == what the output then holds
-use mathlib.Core.Bool.{Bool, not, _||_}
+use mathlib.Core.Bool.{not}
 use mathlib.Core.List.{List, [], _∷_, _++_}
 use Prim.Native.Nat.{ℕ, _+_, _-_, _*_, _^_, _%_}
-use lib.Dec.{eqb}
 use lib.ListN.{length, getD}
 use Rattle.algebra.specs.Lists.{grid, entry, allBelow}
 use Rattle.algebra.specs.Sums.{sum}
@@ -24,6 +22,7 @@ use Rattle.plan.specs.Planning.{prime, parameters, layoutOf, planOf, planTests}
 use Rattle.weights.specs.declared.Matrix.{Matrix}
 use Rattle.weights.specs.declared.Side.{Side}
 use Rattle.weights.specs.Weights.{side}
+use Rattle.encoding.specs.Encoding.{lengthTest}
 
 unfoldable pub blockEntry : Side → List ℕ → ℕ → ℕ → ℕ → ℕ → ℕ
 blockEntry s xs k l i j = entry (s .across * s .columns) xs (k * s .rows + i) (l * s .columns + j)
@@ -45,19 +44,6 @@ point points host = getD points (host - 1) 0
 unfoldable pub hostShare : Matrix → Job → List ℕ → ℕ → List ℕ → List ℕ → List ℕ
 hostShare m job points host xs ms =
     shareOf (prime job) (exponents (layoutOf job) (parameters job)) (side m (planOf job)) (point points host) xs ms
-
-unfoldable pub blockLength : Side → ℕ
-blockLength s = s .rows * s .columns
-
-unfoldable pub matrixLength : Side → ℕ
-matrixLength s = s .down * s .across * blockLength s
-
-unfoldable pub maskLength : Side → ℕ
-maskLength s = s .count * blockLength s
-
--- matrix, masks or output not of exact length
-unfoldable pub lengthTest : Side → ℕ → ℕ → ℕ → Bool
-lengthTest s xs ms room = not (eqb xs (matrixLength s)) || not (eqb ms (maskLength s)) || not (eqb room (blockLength s))
 
 -- q is the prime, hosts is N, and room is how many elements the output has room for
 unfoldable pub ownTests : ℕ → ℕ → Side → ℕ → List ℕ → List ℕ → ℕ → List Row

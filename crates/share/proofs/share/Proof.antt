@@ -97,7 +97,7 @@ share-planned-requires c κs =
     let p = so .before .before in
     let a = start p .args in
     let t = own-passed o (c .before .before .if1 .left) in
-    (rw (side-is so) (side-small (a .matrix) (a .job) (fits p)), t .matrix, t .masks, t .out, t .below-matrix, t .below-masks)
+    (rw (side-is so) (side-small (a .matrix) (a .job) (fits p)), t .lengths .matrix, t .lengths .masks, t .lengths .out, t .below-matrix, t .below-masks)
 
 returns-2 : tie.Need-returns-2
 unfolding shareTests

@@ -11,6 +11,7 @@ use Rattle.field.proofs.Moduli.{prime-prime}
 use Rattle.layout.specs.Exponents.{exponents}
 use Rattle.weights.specs.declared.Side.{Side}
 use Rattle.weights.specs.Weights.{Small, weightCount}
+use Rattle.encoding.proofs.Fitting.{encoded-fit}
 use Rattle.share.proofs.Sums.{share-exact, weights-below}
 use borrow.Author.Needs.{needs}
 use Rattle.share.proofs.share_planned.Statement.{statement}
@@ -31,38 +32,28 @@ few small = omega (arith, mul-le-mul (small .down) (small .across))
 side-weights-requires : tie.Need-side-weights-requires
 side-weights-requires c κs = let small = c .before .before .before .before .pre .0 in (small, few small)
 
-slice-aggregate-share-weighed : tie.Need-slice-aggregate-share-weighed
-slice-aggregate-share-weighed c = search needs
-
-share-weighed-requires : tie.Need-share-weighed-requires
-share-weighed-requires c κs =
-    let sw = c .before .before .before in
-    let e = sw .before .before .before .before .before in
-    let a = e .args in
-    let q = prime (a .plan .modulus) in
-    let pos = prime-prime (a .plan .modulus) .above-one in (
-      record {
-        small = e .pre .0;
-        weights = rw (c .before .before .weights2 .given) (few (e .pre .0));
-        matrix = e .pre .1;
-        masks = e .pre .2;
-        below-weights = rw (sw .side-weights .ensures)
-            (weights-below q (exponents (a .plan .layout) (a .plan .parameters)) (a .s) (a .x) _ (omega arith) (below-drop q (replicate 80 0) (zeros-below q (omega arith)) (weightCount (a .s))));
-        below-matrix = e .pre .4;
-        below-masks = e .pre .5;
-      },
-      e .pre .3,
-    )
+encode-requires : tie.Need-encode-requires
+encode-requires c κs = search needs
 
 same-length : tie.Need-same-length
 same-length c = search needs
 
 returns : tie.Need-returns
 returns c =
-    let rows = c .before .before in
-    let sw = rows .before .before .before .before in
-    let a = sw .before .before .before .before .before .args in
-    rows .share-weighed .ensures ∙ share-exact (prime (a .plan .modulus)) (exponents (a .plan .layout) (a .plan .parameters)) (a .s) (a .x) _ _ (a .xs .now) (a .masks .now) (sw .side-weights .ensures)
+    let call = c .before .before in
+    let sw = call .before .before .before .before in
+    let e = sw .before .before .before .before .before in
+    let a = e .args in
+    let q = prime (a .plan .modulus) in
+    let terms = exponents (a .plan .layout) (a .plan .parameters) in
+    let pos : 0 < q = omega (arith, prime-prime (a .plan .modulus) .above-one) in
+    call .encode .ensures
+    ∙ encoded-fit (a .s) q _ (a .xs .now) (a .masks .now) (a .out .now) (e .pre .0) (record { matrix = e .pre .1; masks = e .pre .2; out = e .pre .3 })
+    ∙ share-exact (a .plan .modulus) terms (a .s) (a .x) (e .pre .0) _ _ (a .xs .now) (a .masks .now) (sw .side-weights .ensures) (record {
+      weights = rw (sw .side-weights .ensures) (weights-below q terms (a .s) (a .x) _ pos (below-drop q (replicate 80 0) (zeros-below q pos) (weightCount (a .s))));
+      matrix = e .pre .4;
+      masks = e .pre .5;
+    })
 
 pub share-planned-spec : {M : Type 1} → statement M
 share-planned-spec =
@@ -70,7 +61,6 @@ share-planned-spec =
     (tie.spec
     slice-aggregate-side-weights
     side-weights-requires
-    slice-aggregate-share-weighed
-    share-weighed-requires
+    encode-requires
     same-length
     returns)

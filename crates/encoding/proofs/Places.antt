@@ -16,7 +16,7 @@ use Rattle.algebra.proofs.Orders.{row-end}
 use Rattle.weights.specs.declared.Side.{Side}
 use Rattle.weights.specs.Weights.{Small}
 use Rattle.weights.proofs.Parts.{Part, part}
-use Rattle.share.specs.Sharing.{blockLength, matrixLength, maskLength}
+use Rattle.encoding.specs.Encoding.{blockLength, matrixLength, maskLength}
 
 pub record Rest (from room : ℕ) : Type 0 where
   pub from-fits : Fits w64 from

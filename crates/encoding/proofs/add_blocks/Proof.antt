@@ -1,4 +1,4 @@
--- `share::add_blocks` meets its contract.
+-- `encoding::add_blocks` meets its contract.
 use mathlib.Core.Path.{_≡_, refl, ap, ap₂, _∙_}
 use mathlib.Core.List.{List, []}
 use Prim.Native.Nat.{ℕ, _+_, _-_, _*_, _%_, _^_, _≤_}
@@ -15,10 +15,10 @@ use Rattle.rows.specs.Combination.{combination, added}
 use Rattle.rows.proofs.Steps.{upTo, up-to-none}
 use Rattle.rows.proofs.Exact.{added-more}
 use Rattle.weights.proofs.Parts.{Part, row-part}
-use Rattle.share.specs.Rows.{blockTerms}
-use Rattle.share.proofs.Places.{Placed, placed, width-fits}
-use Rattle.share.proofs.add_blocks.Statement.{statement}
-use Rattle.share.proofs.add_blocks.Tie as tie
+use Rattle.encoding.specs.Encoding.{blockTerms}
+use Rattle.encoding.proofs.Places.{Placed, placed, width-fits}
+use Rattle.encoding.proofs.add_blocks.Statement.{statement}
+use Rattle.encoding.proofs.add_blocks.Tie as tie
 
 -- one more part
 terms-step : (sums : List ℕ) (f : ℕ → ℕ → ℕ) (k : ℕ)

@@ -1,14 +1,14 @@
--- `share::share_row` meets its contract.
+-- `encoding::encode_row` meets its contract.
 use mathlib.Core.Path.{ap, _∙_}
 use mathlib.Core.List.{List}
 use Prim.Native.Nat.{ℕ, _+_, _%_, _^_}
 use borrow.Author.Needs.{needs}
 use lib.ListN.{length, getD}
 use Rattle.algebra.specs.Lists.{tab}
-use Rattle.share.specs.Rows.{blockTerms}
-use Rattle.share.proofs.Rows.{row-exact}
-use Rattle.share.proofs.share_row.Statement.{statement}
-use Rattle.share.proofs.share_row.Tie as tie
+use Rattle.encoding.specs.Encoding.{blockTerms}
+use Rattle.encoding.proofs.Rows.{row-exact}
+use Rattle.encoding.proofs.encode_row.Statement.{statement}
+use Rattle.encoding.proofs.encode_row.Tie as tie
 
 clear-requires : tie.Need-clear-requires
 clear-requires c κs = search needs
@@ -41,13 +41,13 @@ returns c =
     let e = cleared .before .before .before .before .before .before .before in
     let a = e .args in
     reduce .reduce-row .ensures
-    ∙ row-exact (a .modulus) (a .s) (a .weights .now) (a .xs .now) (a .masks .now) (e .pre .0) (a .i) (a .sums .now) (a .out .now) (e .pre .2)
+    ∙ row-exact (a .modulus) (a .s) (a .weights .now) (a .xs .now) (a .masks .now) (a .i) (a .sums .now) (a .out .now) (e .pre .2)
     (blocks .add-blocks .last .1 .1 .1 .1 .0) _
     (blocks .add-blocks .ensures ∙ ap (λ (z : List ℕ). tab (λ j. (getD z j 0 + blockTerms (a .s) (a .weights .now) (a .xs .now) (a .i) j) % 2 ^ 64) (length z)) (cleared .clear .ensures))
     (masks .add-masks .ensures)
 
-pub share-row-spec : {M : Type 1} → statement M
-share-row-spec =
+pub encode-row-spec : {M : Type 1} → statement M
+encode-row-spec =
     tie.close
     (tie.spec
     clear-requires

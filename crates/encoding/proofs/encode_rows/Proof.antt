@@ -1,7 +1,7 @@
--- `share::share_rows` meets its contract.
+-- `encoding::encode_rows` meets its contract.
 use mathlib.Core.Path.{_≡_, refl, sym, ap, _∙_}
 use mathlib.Core.List.{List, _++_}
-use Prim.Native.Nat.{ℕ, _-_, _*_, _%_, _≤_}
+use Prim.Native.Nat.{ℕ, _-_, _*_, _^_, _%_, _≤_}
 use native.Mathlib.Nat.{add-sub-cancel-left}
 use native.Mathlib.Omega.{arith}
 use lib.ListN.{length, drop}
@@ -10,16 +10,15 @@ use Rattle.algebra.proofs.Grids.{rows-none, rows-more, rows-all}
 use Rattle.field.specs.declared.Modulus.{Modulus}
 use Rattle.field.specs.Modulus.{prime}
 use Rattle.weights.specs.declared.Side.{Side}
-use Rattle.share.specs.Sharing.{blockLength}
-use Rattle.share.specs.Rows.{rowSums}
+use Rattle.encoding.specs.Encoding.{blockLength, rowSums, encodedBlock}
 use Rattle.weights.proofs.Parts.{Part, part-length}
-use Rattle.share.proofs.Places.{block-row}
-use Rattle.share.proofs.share_rows.Statement.{statement}
-use Rattle.share.proofs.share_rows.Tie as tie
+use Rattle.encoding.proofs.Places.{block-row}
+use Rattle.encoding.proofs.encode_rows.Statement.{statement}
+use Rattle.encoding.proofs.encode_rows.Tie as tie
 
--- an element of the share
+-- an element of the block
 abbrev element : Modulus → Side → List ℕ → List ℕ → List ℕ → ℕ → ℕ → ℕ
-element modulus s weights xs masks i j = rowSums s weights xs masks i j % prime modulus
+element modulus s weights xs masks i j = rowSums s weights xs masks i j % 2 ^ 64 % prime modulus
 
 abbrev Inv-loop : tie.InvT-loop
 Inv-loop modulus s weights xs masks sums₀ out₀ rows columns i₀ sums out i =
@@ -51,20 +50,20 @@ mul-start c = out-row c .start-fits
 add-end : tie.Need-add-end Inv-loop μ-loop
 add-end c = out-row c .end-fits
 
-mul-share-row : tie.Need-mul-share-row Inv-loop μ-loop
-mul-share-row c = out-row (c .before) .place-fits
+mul-encode-row : tie.Need-mul-encode-row Inv-loop μ-loop
+mul-encode-row c = out-row (c .before) .place-fits
 
-sub-share-row : tie.Need-sub-share-row Inv-loop μ-loop
-sub-share-row c = out-row (c .before) .ordered
+sub-encode-row : tie.Need-sub-encode-row Inv-loop μ-loop
+sub-encode-row c = out-row (c .before) .ordered
 
-part-share-row-start : tie.Need-part-share-row-start Inv-loop μ-loop
-part-share-row-start c = out-row (c .before) .ordered
+part-encode-row-start : tie.Need-part-encode-row-start Inv-loop μ-loop
+part-encode-row-start c = out-row (c .before) .ordered
 
-part-share-row-end : tie.Need-part-share-row-end Inv-loop μ-loop
-part-share-row-end c = out-row (c .before) .within
+part-encode-row-end : tie.Need-part-encode-row-end Inv-loop μ-loop
+part-encode-row-end c = out-row (c .before) .within
 
-share-row-requires : tie.Need-share-row-requires Inv-loop μ-loop
-share-row-requires c κs =
+encode-row-requires : tie.Need-encode-row-requires Inv-loop μ-loop
+encode-row-requires c κs =
     let l = c .before .before in (
       l .before .before .before .before .before .before .before .pre .0,
       l .loop-test .taken,
@@ -82,7 +81,7 @@ loop-again c =
     let l = c .before .before .before .before .before .before .before in
     let a = l .before .before .before .before .before .before .before .args in
     let i = l .before .loop .i in
-    let call = c .before .before .before .before .share-row in
+    let call = c .before .before .before .before .encode-row in
     let f = element (a .modulus) (a .s) (a .weights .now) (a .xs .now) (a .masks .now) in
     record {
       short = omega arith;
@@ -99,7 +98,7 @@ same-length-2 : tie.Need-same-length-2 Inv-loop μ-loop
 same-length-2 c = omega arith
 
 returns : tie.Need-returns Inv-loop μ-loop
-unfolding blockLength
+unfolding blockLength encodedBlock
 returns c =
     let l = c .before in
     let e = l .before .before .before .before .before .before in
@@ -108,8 +107,8 @@ returns c =
     rows-all (element (a .modulus) (a .s) (a .weights .now) (a .xs .now) (a .masks .now)) (a .out .now) (l .loop .out) (a .s .rows) (a .s .columns) (e .pre .1)
     (l .loop .inv .is ∙ ap (λ (k : ℕ). grid (element (a .modulus) (a .s) (a .weights .now) (a .xs .now) (a .masks .now)) k (a .s .columns) ++ drop (k * a .s .columns) (a .out .now)) all)
 
-pub share-rows-spec : {M : Type 1} → statement M
-share-rows-spec =
+pub encode-rows-spec : {M : Type 1} → statement M
+encode-rows-spec =
     tie.close
     (tie.spec
     Inv-loop
@@ -117,11 +116,11 @@ share-rows-spec =
     loop-holds
     mul-start
     add-end
-    mul-share-row
-    sub-share-row
-    part-share-row-start
-    part-share-row-end
-    share-row-requires
+    mul-encode-row
+    sub-encode-row
+    part-encode-row-start
+    part-encode-row-end
+    encode-row-requires
     add-i
     loop-less
     loop-again

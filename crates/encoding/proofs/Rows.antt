@@ -1,4 +1,4 @@
--- A row of a share, in sums of 64 bits.
+-- A row of the encoded block, in sums of 64 bits.
 --
 --   row-exact    cleared sums, the blocks' part and the masks' part: reduced, they are the row
 use mathlib.Core.Path.{_≡_, refl, ap, _∙_}
@@ -16,10 +16,9 @@ use Rattle.rows.specs.Combination.{added}
 use Rattle.sums.proofs.Reduced.{reduced-tab}
 use Rattle.rows.proofs.Exact.{added-more}
 use Rattle.weights.specs.declared.Side.{Side}
-use Rattle.share.specs.Rows.{Ready, blockTerms, maskTerms, rowSums}
-use Rattle.share.proofs.Sums.{row-fits}
+use Rattle.encoding.specs.Encoding.{blockTerms, maskTerms, rowSums}
 
-module _ (m : Modulus) (s : Side) (w xs ms : List ℕ) (ready : Ready (prime m) s w xs ms) (i : ℕ) (sums out : List ℕ) (same : length sums ≡ length out) where
+module _ (m : Modulus) (s : Side) (w xs ms : List ℕ) (i : ℕ) (sums out : List ℕ) (same : length sums ≡ length out) where
   blocks-only : tab (λ j. (getD (zeros sums) j 0 + blockTerms s w xs i j) % 2 ^ 64) (length (zeros sums)) ≡ tab (λ j. blockTerms s w xs i j % 2 ^ 64) (length sums)
   unfolding zeros
   blocks-only =
@@ -31,15 +30,11 @@ module _ (m : Modulus) (s : Side) (w xs ms : List ℕ) (ready : Ready (prime m) 
 
   pub row-exact : (blocks both : List ℕ) → blocks ≡ tab (λ j. (getD (zeros sums) j 0 + blockTerms s w xs i j) % 2 ^ 64) (length (zeros sums))
       → both ≡ tab (λ j. (getD blocks j 0 + maskTerms s w ms i j) % 2 ^ 64) (length blocks)
-      → reduced (prime m) both out ≡ tab (λ j. rowSums s w xs ms i j % prime m) (length out)
+      → reduced (prime m) both out ≡ tab (λ j. rowSums s w xs ms i j % 2 ^ 64 % prime m) (length out)
   unfolding rowSums maskTerms added
   row-exact blocks both eb ea =
-      let exact : both ≡ tab (rowSums s w xs ms i) (length out)
+      let exact : both ≡ tab (λ j. rowSums s w xs ms i j % 2 ^ 64) (length out)
       = ea
       ∙ added-more (take (s .count) (drop (s .down * s .across) w)) (drop (i * s .columns) ms) (s .rows * s .columns) (blockTerms s w xs i) (length sums) blocks (eb ∙ blocks-only)
-      ∙ tab-cong _ (rowSums s w xs ms i) (length sums) (λ j l.
-      let fits = row-fits m s w xs ms ready i j in
-      let own : (blockTerms s w xs i j + maskTerms s w ms i j) % 2 ^ 64 ≡ blockTerms s w xs i j + maskTerms s w ms i j = omega arith in
-      own)
-      ∙ ap (tab (rowSums s w xs ms i)) same in
-      ap (λ (l : List ℕ). reduced (prime m) l out) exact ∙ reduced-tab (prime m) (length out) (rowSums s w xs ms i) out refl
+      ∙ ap (tab (λ j. rowSums s w xs ms i j % 2 ^ 64)) same in
+      ap (λ (l : List ℕ). reduced (prime m) l out) exact ∙ reduced-tab (prime m) (length out) (λ j. rowSums s w xs ms i j % 2 ^ 64) out refl

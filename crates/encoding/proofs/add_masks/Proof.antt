@@ -1,4 +1,4 @@
--- `share::add_masks` meets its contract.
+-- `encoding::add_masks` meets its contract.
 use mathlib.Core.Path.{_≡_, ap₂, _∙_}
 use mathlib.Core.List.{List}
 use Prim.Native.Nat.{ℕ, _+_, _-_, _*_}
@@ -9,10 +9,10 @@ use lib.ListN.{length, take, drop, length-drop}
 use lib.Seq.{take-all}
 use Rattle.rows.specs.Combination.{added}
 use Rattle.weights.proofs.Parts.{Part, masks-part}
-use Rattle.share.specs.Rows.{maskTerms}
-use Rattle.share.proofs.Places.{Rest, mask-row, block-fits}
-use Rattle.share.proofs.add_masks.Statement.{statement}
-use Rattle.share.proofs.add_masks.Tie as tie
+use Rattle.encoding.specs.Encoding.{maskTerms}
+use Rattle.encoding.proofs.Places.{Rest, mask-row, block-fits}
+use Rattle.encoding.proofs.add_masks.Statement.{statement}
+use Rattle.encoding.proofs.add_masks.Tie as tie
 
 -- the masks' weights, and row i of the masks
 weights-part : (e : tie.Start) → Part (e .args .s .down * e .args .s .across) (e .args .s .count) (length (e .args .weights .now))
