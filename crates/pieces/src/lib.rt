@@ -60,10 +60,7 @@ fn misfit(s: Shape, places: usize, weights: usize, sums: usize, room: usize) -> 
         return true;
     }
     either(
-        either(
-            weights != places * (s.down * s.across),
-            sums != s.columns,
-        ),
+        either(weights != places * (s.down * s.across), sums != s.columns),
         room != s.down * s.rows * s.across * s.columns,
     )
 }
