@@ -1,12 +1,10 @@
 -- `pieces::misfit` meets its contract.
-use mathlib.Core.Path.{_≡_, sym, ap, _∙_}
-use mathlib.Core.Bool.{Bool, _||_}
+use mathlib.Core.Path.{sym, _∙_}
 use native.Mathlib.Nat.{mul-le-mul}
 use native.Mathlib.Omega.{arith}
 use borrow.Author.Needs.{needs}
 use Rattle.pieces.specs.Pieces.{blockCount, pieceCount, misfit, Sized}
 use Rattle.pieces.proofs.Fits.{sizes-told}
-use Rattle.pieces.proofs.Pieces.{few-pieces}
 use Rattle.pieces.proofs.misfit.Statement.{statement}
 use Rattle.pieces.proofs.misfit.Tie as tie
 

@@ -1,6 +1,5 @@
 -- `pieces::table_pieces` meets its contract.
 use mathlib.Core.Path.{_≡_, sym, ap, _∙_}
-use mathlib.Core.Bool.{false}
 use mathlib.Core.Logic.{⊎-elim}
 use Prim.Native.Nat.{ℕ}
 use native.Mathlib.Omega.{arith}
@@ -10,8 +9,7 @@ use borrow.Author.Tests.{not-true, not-false}
 use Rattle.algebra.specs.Lists.{tab}
 use Rattle.field.specs.Modulus.{prime}
 use Rattle.sums.specs.Sums.{zeros}
-use Rattle.pieces.specs.Pieces.{misfit}
-use Rattle.pieces.proofs.Fits.{Fit, fit-told, table-made, table-stays}
+use Rattle.pieces.proofs.Fits.{fit-told, table-made, table-stays}
 use Rattle.pieces.proofs.table_pieces.Statement.{statement}
 use Rattle.pieces.proofs.table_pieces.Tie as tie
 
