@@ -191,31 +191,17 @@ fn decode_planned(
     let count = plan.needed as usize * (job.m as usize * job.n as usize);
     let columns = plan.columns as usize;
     if either(FEW_WEIGHTS < count, FEW_COLUMNS < columns) {
-        let mut weights = [0u32; MOST_WEIGHTS];
-        let mut sums = [0u64; MOST_COLUMNS];
-        decode_chosen(
-            job,
-            plan,
-            points,
-            heard,
-            store,
-            &mut weights[..count],
-            &mut sums[..columns],
-            table,
-        );
+        let mut weight_room = [0u32; MOST_WEIGHTS];
+        let mut sum_room = [0u64; MOST_COLUMNS];
+        let weights = &mut weight_room[..count];
+        let sums = &mut sum_room[..columns];
+        decode_chosen(job, plan, points, heard, store, weights, sums, table);
     } else {
-        let mut weights = [0u32; FEW_WEIGHTS];
-        let mut sums = [0u64; FEW_COLUMNS];
-        decode_chosen(
-            job,
-            plan,
-            points,
-            heard,
-            store,
-            &mut weights[..count],
-            &mut sums[..columns],
-            table,
-        );
+        let mut weight_room = [0u32; FEW_WEIGHTS];
+        let mut sum_room = [0u64; FEW_COLUMNS];
+        let weights = &mut weight_room[..count];
+        let sums = &mut sum_room[..columns];
+        decode_chosen(job, plan, points, heard, store, weights, sums, table);
     }
 }
 

@@ -43,17 +43,17 @@ either-requires c κs = search needs
 abbrev start : tie.After-either → tie.Start
 start c = c .before .before .before .before .before .before .before .before
 
-array-borrow-prefix-weights : tie.Need-array-borrow-prefix-weights
-array-borrow-prefix-weights c = most (start (c .before)) .weights
+array-borrow-prefix-weight-room : tie.Need-array-borrow-prefix-weight-room
+array-borrow-prefix-weight-room c = most (start (c .before)) .weights
 
-slice-aggregate-decode-chosen : tie.Need-slice-aggregate-decode-chosen
-slice-aggregate-decode-chosen c = sym (length-take-le _ _ (array-borrow-prefix-weights (c .before)))
+slice-aggregate-weights : tie.Need-slice-aggregate-weights
+slice-aggregate-weights c = sym (length-take-le _ _ (array-borrow-prefix-weight-room (c .before)))
 
-array-borrow-prefix-sums : tie.Need-array-borrow-prefix-sums
-array-borrow-prefix-sums c = most (start (c .before .before)) .sums
+array-borrow-prefix-sum-room : tie.Need-array-borrow-prefix-sum-room
+array-borrow-prefix-sum-room c = most (start (c .before .before)) .sums
 
-slice-aggregate-decode-chosen-2 : tie.Need-slice-aggregate-decode-chosen-2
-slice-aggregate-decode-chosen-2 c = sym (length-take-le _ _ (array-borrow-prefix-sums (c .before)))
+slice-aggregate-sums : tie.Need-slice-aggregate-sums
+slice-aggregate-sums c = sym (length-take-le _ _ (array-borrow-prefix-sum-room (c .before)))
 
 decode-chosen-requires : tie.Need-decode-chosen-requires
 decode-chosen-requires c κs =
@@ -69,17 +69,17 @@ few e =
     let none = sym (e .before .either .ensures) ∙ e .if1 .left in
     (ltb-false 256 count (or-left (ltb 256 count) (ltb 64 (a .plan .columns)) none), ltb-false 64 (a .plan .columns) (or-right (ltb 256 count) (ltb 64 (a .plan .columns)) none))
 
-array-borrow-prefix-weights-2 : tie.Need-array-borrow-prefix-weights-2
-array-borrow-prefix-weights-2 c = few c .0
+array-borrow-prefix-weight-room-2 : tie.Need-array-borrow-prefix-weight-room-2
+array-borrow-prefix-weight-room-2 c = few c .0
 
-slice-aggregate-decode-chosen-3 : tie.Need-slice-aggregate-decode-chosen-3
-slice-aggregate-decode-chosen-3 c = sym (length-take-le _ _ (few (c .before) .0))
+slice-aggregate-weights-2 : tie.Need-slice-aggregate-weights-2
+slice-aggregate-weights-2 c = sym (length-take-le _ _ (few (c .before) .0))
 
-array-borrow-prefix-sums-2 : tie.Need-array-borrow-prefix-sums-2
-array-borrow-prefix-sums-2 c = few (c .before) .1
+array-borrow-prefix-sum-room-2 : tie.Need-array-borrow-prefix-sum-room-2
+array-borrow-prefix-sum-room-2 c = few (c .before) .1
 
-slice-aggregate-decode-chosen-4 : tie.Need-slice-aggregate-decode-chosen-4
-slice-aggregate-decode-chosen-4 c = sym (length-take-le _ _ (few (c .before .before) .1))
+slice-aggregate-sums-2 : tie.Need-slice-aggregate-sums-2
+slice-aggregate-sums-2 c = sym (length-take-le _ _ (few (c .before .before) .1))
 
 decode-chosen-requires-2 : tie.Need-decode-chosen-requires-2
 decode-chosen-requires-2 c κs =
@@ -110,15 +110,15 @@ decode-planned-spec =
     mul-count-2
     cast-columns
     either-requires
-    array-borrow-prefix-weights
-    slice-aggregate-decode-chosen
-    array-borrow-prefix-sums
-    slice-aggregate-decode-chosen-2
+    array-borrow-prefix-weight-room
+    slice-aggregate-weights
+    array-borrow-prefix-sum-room
+    slice-aggregate-sums
     decode-chosen-requires
-    array-borrow-prefix-weights-2
-    slice-aggregate-decode-chosen-3
-    array-borrow-prefix-sums-2
-    slice-aggregate-decode-chosen-4
+    array-borrow-prefix-weight-room-2
+    slice-aggregate-weights-2
+    array-borrow-prefix-sum-room-2
+    slice-aggregate-sums-2
     decode-chosen-requires-2
     same-length
     returns
