@@ -1,6 +1,5 @@
 -- Laws of decoding.
 pub mod Chosen
 pub mod Stored
-pub mod Pieces
 pub mod Tables
 pub mod Answers

@@ -24,10 +24,11 @@ use Rattle.algebra.proofs.Sums.{sum-≈}
 use Rattle.algebra.proofs.Places.{pointsAt}
 use Rattle.interpolation.proofs.Weights.{basis-by-division}
 use Rattle.layout.specs.Exponents.{Exponents}
-use Rattle.decode.specs.declared.Shape.{Shape}
+use Rattle.pieces.specs.declared.Shape.{Shape}
+use Rattle.pieces.specs.Pieces.{blockCount, blockLength, pieceCount, pieceBlock, pieceRow, answerTerms, pieceSum, Sized}
+use Rattle.pieces.proofs.Pieces.{Placed, placed}
 use Rattle.decode.specs.Decoding.{blocks}
-use Rattle.decode.specs.Weights.{Small, blockCount, blockLength, pieceCount, pieceBlock, pieceRow, hostWeight, weightsOf, answerTerms, pieceSum}
-use Rattle.decode.proofs.Pieces.{Placed, placed}
+use Rattle.decode.specs.Weights.{hostWeight, weightsOf}
 
 -- ---- blocks and pieces
 
@@ -77,7 +78,7 @@ module _ (q : ℕ) (e : Exponents) (s : Shape) (xs : List ℕ) where
 
 -- ---- the table
 
-module _ (q : ℕ) (e : Exponents) (s : Shape) (small : Small s) (points places store : List ℕ)
+module _ (q : ℕ) (e : Exponents) (s : Shape) (points places store : List ℕ) (sized : Sized s (length places))
     (below : AllBelow q (pointsAt points places)) (distinct : Distinct (pointsAt points places)) where
   xs : List ℕ
   xs = pointsAt points places
@@ -96,7 +97,7 @@ module _ (q : ℕ) (e : Exponents) (s : Shape) (small : Small s) (points places 
     unfolding xs entry placeOf pieceBlock
     weight-at =
         let b = pieceBlock s w in
-        let p : Placed s w = placed s w small h in
+        let p : Placed s w = placed s (length places) w sized h in
         let order : b + c * blockCount s ≡ c * blockCount s + b = omega arith in
         ≈-trans (≈-of-eq (getD-drop b (weightsOf q e s xs) (c * blockCount s) 0 ∙ ap (λ (k : ℕ). getD (weightsOf q e s xs) k 0) order))
         (≈-trans (weight-is q e s xs below distinct c b (omega (arith, length-map places (λ h. getD points h 0))) (p .block))

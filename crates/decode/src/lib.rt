@@ -1,42 +1,23 @@
 // Decoding: the table is interpolated from the answers of the K lowest-numbered hosts heard.
 ghost use mathlib.Core.Path.{_≡_};
 ghost use mathlib.Core.List.{map};
-ghost use Prim.Native.Nat.{_+_, _*_, _%_, _^_, _<_, _≤_};
-ghost use lib.ListN.{length, getD, drop};
-ghost use Rattle.algebra.specs.Lists.{tab, grid, AllBelow};
+ghost use Prim.Native.Nat.{_*_, _≤_};
+ghost use lib.ListN.{length, getD};
+ghost use Rattle.algebra.specs.Lists.{tab, AllBelow};
 ghost use Rattle.refusal.specs.Chain.{first};
 ghost use Rattle.field.specs.Modulus.{prime};
+ghost use Rattle.pieces.specs.Pieces.{blockCount};
 ghost use Rattle.layout.specs.Exponents.{exponents};
 ghost use Rattle.plan.specs.Planning.{planOf};
 ghost use Rattle.decode.specs.Decoding.{heardBelow, decodeTests, tableOf, tableAfter};
-ghost use Rattle.decode.specs.Weights.{
-  ownTests,
-  Limited,
-  shape,
-  blockCount,
-  Roomy,
-  hostWeight,
-  weightsOf,
-  pieceCount,
-  answerTerms,
-  There,
-  pieceSum,
-  Ready,
-};
+ghost use Rattle.decode.specs.Weights.{ownTests, Limited, shape, Roomy, hostWeight, weightsOf};
 use field::Modulus;
 use layout::Series;
+use pieces::Shape;
 use plan::Job;
 use plan::Plan;
 use plan::Planned;
 use refusal::either;
-
-// The table: down by across blocks, each rows by columns.
-struct Shape {
-    down: usize,
-    across: usize,
-    rows: usize,
-    columns: usize,
-}
 
 // The most hosts, the most coefficients of the product over their points, the most weights, and the most columns of a block.
 const MOST_HOSTS: usize = 64;
@@ -46,6 +27,11 @@ const MOST_ROOTS: usize = 65;
 const MOST_WEIGHTS: usize = 4096;
 
 const MOST_COLUMNS: usize = 4096;
+
+// Up to so many weights and columns, only so many weights and sums are made: to make the most takes longer than a small table.
+const FEW_WEIGHTS: usize = 256;
+
+const FEW_COLUMNS: usize = 64;
 
 // The blocks of the hosts heard have elements below the prime; other blocks are not looked at.
 fn heard_below(modulus: Modulus, size: usize, heard: u64, store: &[u32], hosts: u32) -> bool
@@ -155,116 +141,42 @@ fn decoding_weights(plan: Plan, points: &[u32], weights: &mut [u32])
     }
 }
 
-// The answer at a place, and all that lies behind it.
-fn answer_at(source: &[u32], place: u32, size: usize) -> &[u32]
-    requires { ⌜ place * size ≤ length (now source) ⌝ }
-    ensures { λ r. ⌜ now r ≡ drop (place * size) (now (source .entry)) ⌝ }
-{
-    let start = place as usize * size;
-    &source[start..]
-}
-
-// Adds to the sums the rows of the answers at some places, each times its weight, two at a time. The weights lie a step apart,
-// the answers a size.
-fn add_answers(
-    sums: &mut [u64],
-    weights: &[u32],
-    step: usize,
-    places: &[u32],
-    source: &[u32],
-    size: usize,
-)
-    requires { ⌜ There (now weights) step (now places) (now source) size ⌝ }
-    ensures { λ _. ⌜ now (sums .exit)
-        ≡ tab (λ v. (getD (now (sums .entry)) v 0 + answerTerms (now (weights .entry)) step (now (places .entry)) (now (source .entry)) size v) % 2 ^ 64) (length (now (sums .entry))) ⌝ }
-{
-    let mut c = 0;
-    while c < places.len() {
-        let weight = weights[c * step];
-        let answer = answer_at(source, places[c], size);
-        if places.len() - c < 2 {
-            rows::add_row(sums, weight, answer);
-            c += 1;
-        } else {
-            let second = weights[c * step + step];
-            let next = answer_at(source, places[c + 1], size);
-            rows::add_pair(sums, weight, answer, second, next);
-            c += 2;
-        }
-    }
-}
-
-// A piece of the table, from the weights of its block and the answers' rows that are its own. There is a sum for each element.
-fn table_piece(
-    modulus: Modulus,
-    s: Shape,
-    piece: usize,
-    places: &[u32],
-    weights: &[u32],
+// The table of a call that no test refuses. A weight is lent for each chosen host and block, and a sum for each column.
+fn decode_chosen(
+    job: Job,
+    plan: Plan,
+    points: &[u32],
+    heard: u64,
     store: &[u32],
+    weights: &mut [u32],
     sums: &mut [u64],
-    out: &mut [u32],
-)
-    requires { ⌜ Ready (prime modulus) s (now places) (now weights) (now store)
-        × piece < pieceCount s
-        × length (now sums) ≡ s .columns
-        × length (now out) ≡ s .columns ⌝ }
-    ensures { λ _. ⌜ now (out .exit)
-        ≡ tab (λ v. pieceSum s (now (places .entry)) (now (weights .entry)) (now (store .entry)) piece v % prime modulus) (s .columns) ⌝ }
-{
-    let across = s.across;
-    let rows = s.rows;
-    let columns = s.columns;
-    let row = piece / across;
-    let block = row / rows * across + piece % across;
-    let from = row % rows * columns;
-    sums::clear(sums);
-    add_answers(
-        sums,
-        &weights[block..],
-        s.down * across,
-        places,
-        &store[from..],
-        rows * columns,
-    );
-    sums::reduce_row(modulus, sums, out);
-}
-
-// The table, piece by piece.
-fn table_pieces(
-    modulus: Modulus,
-    s: Shape,
-    places: &[u32],
-    weights: &[u32],
-    store: &[u32],
     table: &mut [u32],
 )
-    requires { ⌜ Ready (prime modulus) s (now places) (now weights) (now store) × length (now table) ≡ pieceCount s * s .columns ⌝ }
-    ensures { λ _. ⌜ now (table .exit)
-        ≡ grid (λ w v. pieceSum s (now (places .entry)) (now (weights .entry)) (now (store .entry)) w v % prime modulus) (pieceCount s) (s .columns) ⌝ }
+    requires { ⌜ plan ≡ planOf job
+        × first (decodeTests job (now points) heard (now store) (length (now table))) ≡ 0
+        × length (now weights) ≡ plan .needed * blockCount (shape plan)
+        × length (now sums) ≡ plan .columns ⌝ }
+    ensures { λ _. ⌜ now (table .exit) ≡ tableOf job (now (points .entry)) heard (now (store .entry)) ⌝ }
 {
-    let columns = s.columns;
-    let count = s.down * s.rows * s.across;
-    let mut sums = [0u64; MOST_COLUMNS];
-    let mut piece = 0;
-    while piece < count {
-        let start = piece * columns;
-        let end = start + columns;
-        table_piece(
-            modulus,
-            s,
-            piece,
-            places,
-            weights,
-            store,
-            &mut sums[..columns],
-            &mut table[start..end],
-        );
-        piece += 1;
-    }
+    let modulus = plan.modulus;
+    let s = Shape {
+        down: job.m as usize,
+        across: job.n as usize,
+        rows: plan.rows as usize,
+        columns: plan.columns as usize,
+    };
+    let needed = plan.needed as usize;
+    let mut place_room = [0u32; MOST_HOSTS];
+    let mut point_room = [0u32; MOST_HOSTS];
+    let places = &mut place_room[..needed];
+    let chosen = &mut point_room[..needed];
+    heard::lowest_heard(heard, places);
+    points_at(points, places, chosen);
+    decoding_weights(plan, chosen, weights);
+    pieces::table_pieces(modulus, s, places, weights, store, sums, table);
 }
 
-// The table of a call that no test refuses.
+// The table of a call that no test refuses, with few weights and sums or the most.
 fn decode_planned(
     job: Job,
     plan: Plan,
@@ -276,25 +188,21 @@ fn decode_planned(
     requires { ⌜ plan ≡ planOf job × first (decodeTests job (now points) heard (now store) (length (now table))) ≡ 0 ⌝ }
     ensures { λ _. ⌜ now (table .exit) ≡ tableOf job (now (points .entry)) heard (now (store .entry)) ⌝ }
 {
-    let modulus = plan.modulus;
-    let s = Shape {
-        down: job.m as usize,
-        across: job.n as usize,
-        rows: plan.rows as usize,
-        columns: plan.columns as usize,
-    };
-    let needed = plan.needed as usize;
-    let count = needed * (s.down * s.across);
-    let mut place_room = [0u32; MOST_HOSTS];
-    let mut point_room = [0u32; MOST_HOSTS];
-    let mut weight_room = [0u32; MOST_WEIGHTS];
-    let places = &mut place_room[..needed];
-    let chosen = &mut point_room[..needed];
-    let weights = &mut weight_room[..count];
-    heard::lowest_heard(heard, places);
-    points_at(points, places, chosen);
-    decoding_weights(plan, chosen, weights);
-    table_pieces(modulus, s, places, weights, store, table);
+    let count = plan.needed as usize * (job.m as usize * job.n as usize);
+    let columns = plan.columns as usize;
+    if either(FEW_WEIGHTS < count, FEW_COLUMNS < columns) {
+        let mut weight_room = [0u32; MOST_WEIGHTS];
+        let mut sum_room = [0u64; MOST_COLUMNS];
+        let weights = &mut weight_room[..count];
+        let sums = &mut sum_room[..columns];
+        decode_chosen(job, plan, points, heard, store, weights, sums, table);
+    } else {
+        let mut weight_room = [0u32; FEW_WEIGHTS];
+        let mut sum_room = [0u64; FEW_COLUMNS];
+        let weights = &mut weight_room[..count];
+        let sums = &mut sum_room[..columns];
+        decode_chosen(job, plan, points, heard, store, weights, sums, table);
+    }
 }
 
 // Decodes the table from the answers of the K lowest-numbered hosts heard: the table then holds it, or the call is refused by

@@ -1,4 +1,4 @@
--- `decode::add_answers` meets its contract.
+-- `pieces::add_answers` meets its contract.
 use mathlib.Core.Path.{_≡_, ap, _∙_}
 use mathlib.Core.List.{List}
 use Prim.Native.Nat.{ℕ, _+_, _-_, _*_, _<_, _≤_}
@@ -8,10 +8,10 @@ use lib.ListN.{length, getD, drop}
 use lib.Seq.{getD-drop}
 use Rattle.algebra.specs.Lists.{entry}
 use Rattle.rows.specs.Combination.{plus}
-use Rattle.decode.specs.Weights.{answerTerms}
-use Rattle.decode.proofs.Pieces.{sumsTo, length-sums, sums-none, sums-more}
-use Rattle.decode.proofs.add_answers.Statement.{statement}
-use Rattle.decode.proofs.add_answers.Tie as tie
+use Rattle.pieces.specs.Pieces.{answerTerms}
+use Rattle.pieces.proofs.Pieces.{sumsTo, length-sums, sums-none, sums-more}
+use Rattle.pieces.proofs.add_answers.Statement.{statement}
+use Rattle.pieces.proofs.add_answers.Tie as tie
 
 -- what the answer at place number c adds at v
 abbrev term : List ℕ → ℕ → List ℕ → List ℕ → ℕ → ℕ → ℕ → ℕ
@@ -33,11 +33,9 @@ loop-holds c =
 abbrev start : tie.In-loop Inv-loop μ-loop → tie.Start Inv-loop μ-loop
 start c = c .before .before .before .before .before .before
 
--- the weight and the answer at place number k are there
-there : (c : tie.In-loop Inv-loop μ-loop) (k : ℕ) → k < length (start c .args .places .now)
-    → (k * start c .args .step < length (start c .args .weights .now))
-    × (getD (start c .args .places .now) k 0 * start c .args .size ≤ length (start c .args .source .now))
-there c k l = (start c .pre .weight k l, start c .pre .answer k l)
+-- the weight of place number k is there
+there : (c : tie.In-loop Inv-loop μ-loop) (k : ℕ) → k < length (start c .args .places .now) → k * start c .args .step < length (start c .args .weights .now)
+there c k l = start c .pre .weight k l
 
 -- one more answer is added
 one-more : (c : tie.In-loop Inv-loop μ-loop) (k : ℕ) (now answer : List ℕ)
@@ -70,7 +68,7 @@ shared-slice-read-answer-at : tie.Need-shared-slice-read-answer-at Inv-loop μ-l
 shared-slice-read-answer-at c = omega arith
 
 answer-at-requires : tie.Need-answer-at-requires Inv-loop μ-loop
-answer-at-requires c κs = there (c .before .before) (c .before .before .before .loop .c) (omega arith) .1
+answer-at-requires c κs = start (c .before .before) .pre .short
 
 sub-if1 : tie.Need-sub-if1 Inv-loop μ-loop
 sub-if1 c = omega arith
@@ -91,15 +89,14 @@ loop-again c =
     let l = i .before .loop in
     record { is = c .before .before .add-row .ensures ∙ one-more i (l .c) (l .sums) _ (l .inv .is) (first .answer-at .ensures); short = omega arith }
 
--- the next weight and the next answer are there
+-- the next weight is there
 next-there : (e : tie.Else1 Inv-loop μ-loop)
     → let i = e .before .before .before .before in
-    (i .before .loop .c * start i .args .step + start i .args .step < length (start i .args .weights .now))
-    × (getD (start i .args .places .now) (i .before .loop .c + 1) 0 * start i .args .size ≤ length (start i .args .source .now))
+    i .before .loop .c * start i .args .step + start i .args .step < length (start i .args .weights .now)
 next-there e =
     let i = e .before .before .before .before in
     let t = there i (i .before .loop .c + 1) (omega arith) in
-    (omega arith, t .1)
+    omega arith
 
 mul-second : tie.Need-mul-second Inv-loop μ-loop
 mul-second c = let t = next-there c in omega arith
@@ -123,7 +120,7 @@ shared-slice-read-answer-at-2 : tie.Need-shared-slice-read-answer-at-2 Inv-loop 
 shared-slice-read-answer-at-2 c = omega arith
 
 answer-at-requires-2 : tie.Need-answer-at-requires-2 Inv-loop μ-loop
-answer-at-requires-2 c κs = next-there (c .before .before) .1
+answer-at-requires-2 c κs = start (c .before .before .before .before .before .before) .pre .short
 
 add-pair-requires : tie.Need-add-pair-requires Inv-loop μ-loop
 add-pair-requires c κs = search needs

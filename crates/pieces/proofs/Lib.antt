@@ -1,0 +1,3 @@
+-- Laws of tables put together from weighted answers.
+pub mod Fits
+pub mod Pieces

@@ -1,0 +1,168 @@
+-- A piece of the table: where its parts lie, and its sums of 64 bits.
+--
+--   Placed s w       piece w: its block and its row are within the table's
+--   placed           so is each piece
+--   few-pieces       how many rows and pieces a table has at most
+--   sumsTo           each sum with the terms of the first c places, in 64 bits
+--   length-sums, sums-none, sums-more   as many as before, no place, and one more
+--   rest-is, rest-clipped   a list from some place on, up to its end
+--   block-there, piece-there   the weights of a piece are there
+--   reduced-piece    cleared sums with all the terms: reduced, they are the piece
+--   piece-fits       a piece's sum stays below 2 ^ 64, where the weights and the answers are below a prime of ours
+use mathlib.Core.Path.{_≡_, sym, ap, _∙_}
+use mathlib.Core.List.{List}
+use Prim.Native.Nat.{ℕ, _+_, _-_, _*_, _/_, _%_, _^_, _<_, _≤_, min}
+use native.Mathlib.Nat.{mul-le-mul, mul-le-mul-right, mod-lt, div-lt-iff-lt-mul, le-of-lt}
+use native.Mathlib.Numerals.{add-one}
+use native.Mathlib.Omega.{arith}
+use lib.ListN.{length, getD, take, drop, length-drop}
+use lib.Seq.{getD-drop, take-all, ext-getD}
+use Rattle.algebra.specs.Lists.{tab, entry, AllBelow}
+use Rattle.algebra.specs.Sums.{sum}
+use Rattle.algebra.proofs.Orders.{row-end}
+use Rattle.algebra.proofs.Lists.{length-tab, getD-tab, below-anywhere, below-drop}
+use Rattle.algebra.proofs.Grids.{tab-cong}
+use Rattle.algebra.proofs.Sums.{sum-bound}
+use Rattle.field.specs.declared.Modulus.{Modulus}
+use Rattle.field.specs.Modulus.{prime}
+use Rattle.field.proofs.Moduli.{prime-prime, sums-fit}
+use Rattle.sums.specs.Sums.{zeros, reduced}
+use Rattle.sums.proofs.Reduced.{reduced-tab}
+use Rattle.rows.specs.Combination.{plus}
+use Rattle.rows.proofs.Steps.{rest-more}
+use Rattle.pieces.specs.declared.Shape.{Shape}
+use Rattle.pieces.specs.Pieces.{blockCount, blockLength, pieceCount, pieceBlock, pieceRow, answerTerms, pieceSum, Sized, Ready, There}
+
+-- ---- where it lies
+
+pub record Placed (s : Shape) (w : ℕ) : Type 0 where
+  pub tall : w / s .across < s .down * s .rows
+  pub high : s .down * s .rows ≤ 16777216
+  pub left : w / s .across / s .rows * s .across + s .across ≤ blockCount s
+  pub column : w % s .across < s .across
+  pub block : pieceBlock s w < blockCount s
+  pub few : blockCount s ≤ 16777216
+  pub row : pieceRow s w * s .columns + s .columns ≤ blockLength s
+  pub size : blockLength s ≤ 16777216
+
+pub few-pieces : (s : Shape) (places : ℕ) → Sized s places → (s .down * s .rows ≤ 16777216) × (pieceCount s ≤ 68719476736)
+unfolding pieceCount
+few-pieces s places sized =
+    let high : s .down * s .rows ≤ 4096 * 4096 = mul-le-mul (sized .down) (sized .rows) in
+    (high, mul-le-mul high (sized .across))
+
+pub placed : (s : Shape) (places w : ℕ) → Sized s places → w < pieceCount s → Placed s w
+unfolding pieceCount blockCount blockLength pieceBlock pieceRow
+placed s places w sized h =
+    let tall : w / s .across < s .down * s .rows = div-lt-iff-lt-mul (sized .split) .1 h in
+    let down : w / s .across / s .rows < s .down = div-lt-iff-lt-mul (sized .tall) .1 tall in
+    let left = row-end (s .across) down in
+    let column : w % s .across < s .across = mod-lt w (sized .split) in
+    record {
+      tall = tall;
+      high = few-pieces s places sized .0;
+      left = left;
+      column = column;
+      block = omega (arith, left, column);
+      few = mul-le-mul (sized .down) (sized .across);
+      row = row-end (s .columns) (mod-lt (w / s .across) (sized .tall));
+      size = mul-le-mul (sized .rows) (sized .columns);
+    }
+
+-- ---- its sums
+
+module _ (sums : List ℕ) (f : ℕ → ℕ → ℕ) where
+  unfoldable pub sumsTo : ℕ → List ℕ
+  sumsTo c = tab (λ v. (getD sums v 0 + sum c (λ h. f h v)) % 2 ^ 64) (length sums)
+
+  pub length-sums : (c : ℕ) → length (sumsTo c) ≡ length sums
+  unfolding sumsTo
+  length-sums c = length-tab _ (length sums)
+
+  pub sums-none : ((v : ℕ) → v < length sums → getD sums v 0 < 2 ^ 64) → sums ≡ sumsTo 0
+  unfolding sumsTo sum
+  sums-none small =
+      ext-getD 0 sums (sumsTo 0) (sym (length-sums 0)) (λ v l.
+      let fits = small v l in
+      let same : getD sums v 0 ≡ (getD sums v 0 + 0) % 2 ^ 64 = omega arith in
+      same ∙ sym (getD-tab _ (length sums) v 0 l))
+
+  pub sums-more : (now row : List ℕ) (weight c : ℕ) → now ≡ sumsTo c → ((v : ℕ) → weight * getD row v 0 ≡ f c v) → plus now weight row ≡ sumsTo (c + 1)
+  unfolding sumsTo sum plus
+  sums-more now row weight c e is =
+      rw add-one
+      (ap (tab (λ v. (getD now v 0 + weight * getD row v 0) % 2 ^ 64)) (ap length e ∙ length-sums c)
+      ∙ tab-cong _ _ (length sums) (λ v l.
+      let before : getD now v 0 ≡ (getD sums v 0 + sum c (λ h. f h v)) % 2 ^ 64 = ap (λ (xs : List ℕ). getD xs v 0) e ∙ getD-tab _ (length sums) v 0 l in
+      let more : (getD now v 0 + weight * getD row v 0) % 2 ^ 64 ≡ (getD sums v 0 + (sum c (λ h. f h v) + f c v)) % 2 ^ 64 = omega (arith, is v) in
+      more))
+
+-- a list from some place on, up to its end
+module _ (xs : List ℕ) (k : ℕ) where
+  pub rest-is : take (length xs - k) (drop k xs) ≡ drop k xs
+  rest-is = take-all (length xs - k) (drop k xs) (omega (arith, length-drop k xs))
+
+  -- the place is clipped at the end
+  pub rest-clipped : (start : ℕ) → start ≡ min k (length xs) → take (length xs - start) (drop start xs) ≡ drop k xs
+  rest-clipped start e =
+      let none : 0 ≡ 0 * k = omega arith in
+      let once : (0 + 1) * k ≡ k = omega arith in
+      rest-more xs xs 0 k start (ap (λ (n : ℕ). drop n xs) none) e ∙ ap (λ (n : ℕ). drop n xs) once
+
+-- ---- what it is made of
+
+module _ {s : Shape} {places ws : List ℕ} (ready : Ready s places ws) (w : ℕ) (h : w < pieceCount s) where
+  at : Placed s w
+  at = placed s (length places) w (ready .sized) h
+
+  pub block-there : pieceBlock s w ≤ length ws
+  block-there = omega (arith, at .block, ready .each, mul-le-mul-right (blockCount s) (ready .sized .some))
+
+  pub piece-there : There (drop (pieceBlock s w) ws) (blockCount s) places (blockLength s)
+  piece-there = record {
+    weight = λ c l. omega (arith, at .block, ready .each, row-end (blockCount s) l, length-drop (pieceBlock s w) ws);
+    short = at .size;
+  }
+
+pub reduced-piece : (q n : ℕ) (f : ℕ → ℕ) (sums out : List ℕ) → length sums ≡ n → length out ≡ n → (after : List ℕ)
+    → after ≡ tab (λ v. (getD (zeros sums) v 0 + f v) % 2 ^ 64) (length (zeros sums))
+    → reduced q after out ≡ tab (λ v. f v % 2 ^ 64 % q) n
+unfolding zeros
+reduced-piece q n f sums out size room after e =
+    let none : length (zeros sums) ≡ n = length-tab (λ (v : ℕ). 0) (length sums) ∙ size in
+    let exact : after ≡ tab (λ v. f v % 2 ^ 64) n
+    = e
+    ∙ ap (tab (λ v. (getD (zeros sums) v 0 + f v) % 2 ^ 64)) none
+    ∙ tab-cong _ (λ v. f v % 2 ^ 64) n (λ v l.
+    let zero : getD (zeros sums) v 0 ≡ 0 = getD-tab (λ (k : ℕ). 0) (length sums) v 0 (omega arith) in
+    let same : (getD (zeros sums) v 0 + f v) % 2 ^ 64 ≡ f v % 2 ^ 64 = omega arith in
+    same) in
+    ap (λ (l : List ℕ). reduced q l out) exact ∙ reduced-tab q n (λ v. f v % 2 ^ 64) out room
+
+-- ---- a sum that stays below 2 ^ 64
+
+module _ (m : Modulus) (s : Shape) (places ws store : List ℕ) (sized : Sized s (length places)) (weights : AllBelow (prime m) ws)
+    (answers : (c i : ℕ) → c < length places → i < blockLength s → entry (blockLength s) store (getD places c 0) i < prime m)
+    (w v : ℕ) (hw : w < pieceCount s) (hv : v < s .columns) where
+  -- an element of an answer is below the prime
+  answer-below : (c : ℕ) → c < length places → entry (blockLength s) (drop (pieceRow s w * s .columns) store) (getD places c 0) v < prime m
+  unfolding entry
+  answer-below c l =
+      let size = getD places c 0 * blockLength s in
+      let from = pieceRow s w * s .columns in
+      let same : from + (size + v) ≡ size + (from + v) = omega arith in
+      let is : getD (drop from store) (size + v) 0 ≡ getD store (size + (from + v)) 0
+      = getD-drop from store (size + v) 0 ∙ ap (λ (k : ℕ). getD store k 0) same in
+      omega (arith, is, answers c (from + v) l (omega (arith, placed s (length places) w sized hw .row)))
+
+  pub piece-fits : pieceSum s places ws store w v % 2 ^ 64 ≡ pieceSum s places ws store w v
+  unfolding pieceSum answerTerms
+  piece-fits =
+      let q = prime m in
+      let pos : 0 < q = omega (arith, prime-prime m .above-one) in
+      let bound : pieceSum s places ws store w v ≤ length places * (q * q)
+      = sum-bound (length places) (q * q) _ (λ c l.
+      mul-le-mul (le-of-lt (below-anywhere q (drop (pieceBlock s w) ws) pos (below-drop q ws weights (pieceBlock s w)) (c * blockCount s)))
+      (le-of-lt (answer-below c l))) in
+      let few = mul-le-mul-right (q * q) (sized .few) in
+      omega (arith, sums-fit m)
