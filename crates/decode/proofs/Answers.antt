@@ -29,7 +29,7 @@ use Rattle.algebra.proofs.Lists.{below-anywhere}
 use Rattle.algebra.proofs.Grids.{grid-cong}
 use Rattle.algebra.proofs.Places.{pointsAt}
 use Rattle.refusal.specs.Chain.{first, answer}
-use Rattle.refusal.proofs.Chains.{first-clear, first-append-clear, answer-done, answer-refused}
+use Rattle.refusal.proofs.Chains.{first-clear, first-append-clear, answer-done, answer-refused, inside}
 use Rattle.field.specs.Modulus.{prime as Modulus·prime}
 use Rattle.pieces.specs.declared.Shape.{Shape}
 use Rattle.pieces.specs.Pieces.{blockCount, blockLength, pieceCount, pieceSum, piecesOf, sizesTest, misfit, tableAfter as Pieces·tableAfter, Sized}
@@ -42,7 +42,6 @@ use Rattle.plan.specs.Planning.{prime, parameters, layoutOf, neededOf, blockRow
 use Rattle.plan.proofs.Facts.{Facts, Fits, facts}
 use Rattle.plan.proofs.Sizes.{sizes, place-below}
 use Rattle.plan.proofs.Then.{own-prime, plan-numbered}
-use Rattle.header.proofs.Fields.{inside}
 use Rattle.heard.specs.Heard.{someAbove, lowest}
 use Rattle.heard.proofs.Bits.{ones-size, lowest-within}
 use Rattle.arrival.specs.Arriving.{answerLength, storeLength, blockAt}

@@ -1,19 +1,18 @@
 -- What the tests of a header tell, and when they pass.
 --
---   inside, under, over  a number is in a range, or is not
 --   Ranged h          the fields are in their ranges
 --   ranged            they are where the tests of the fields pass
 --   Headed message    what the tests of a message's header ask
 --   headed, heads     they pass where it holds, and only there
-use mathlib.Core.Path.{_≡_, ap, ap₂, _∙_}
-use mathlib.Core.Bool.{Bool, true, false, not, _||_}
+use mathlib.Core.Path.{_≡_, ap, _∙_}
+use mathlib.Core.Bool.{false, not}
 use mathlib.Core.List.{List}
 use Prim.Native.Nat.{ℕ, _^_, _<_, _≤_}
 use lib.Dec.{ltb}
 use lib.ListN.{length}
-use borrow.Author.Tests.{ltb-false, lt-ltb, le-ltb, eq-eqb}
+use borrow.Author.Tests.{ltb-false, eq-eqb}
 use Rattle.algebra.proofs.Tests.{equal}
-use Rattle.refusal.specs.Chain.{first, outside}
+use Rattle.refusal.specs.Chain.{first}
 use Rattle.refusal.proofs.Chains.{first-clear, inside-high}
 use Rattle.refusal.proofs.Limits.{within-both}
 use Rattle.field.specs.Modulus.{moduli, modulus, noModulus}
@@ -22,19 +21,6 @@ use Rattle.big_endian.specs.Bytes.{numberAt}
 use Rattle.header.specs.declared.Header.{Header}
 use Rattle.header.specs.Header.{mark, version, headerOf, elementCount, kindTest, hostTest, sizeTest, blockTest, fieldTests, markTest, versionTest, headerTests}
 use Rattle.header.proofs.Tests.{told-fields}
-
-module _ (low high n : ℕ) where
-  pub inside : low ≤ n → n ≤ high → outside low high n ≡ false
-  unfolding outside
-  inside l h = ap₂ _||_ (le-ltb n low l) (le-ltb high n h)
-
-  pub under : n < low → outside low high n ≡ true
-  unfolding outside
-  under l = ap (λ (b : Bool). b || ltb high n) (lt-ltb n low l)
-
-  pub over : low ≤ n → high < n → outside low high n ≡ true
-  unfolding outside
-  over l h = ap₂ _||_ (le-ltb n low l) (lt-ltb high n h)
 
 pub record Ranged (h : Header) : Type 0 where
   pub known : noModulus (h .modulus) ≡ false

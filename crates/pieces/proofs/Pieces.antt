@@ -3,20 +3,17 @@
 --   Placed s w       piece w: its block and its row are within the table's
 --   placed           so is each piece
 --   few-pieces       how many rows and pieces a table has at most
---   sumsTo           each sum with the terms of the first c places, in 64 bits
---   length-sums, sums-none, sums-more   as many as before, no place, and one more
 --   rest-is, rest-clipped   a list from some place on, up to its end
 --   block-there, piece-there   the weights of a piece are there
 --   reduced-piece    cleared sums with all the terms: reduced, they are the piece
 --   piece-fits       a piece's sum stays below 2 ^ 64, where the weights and the answers are below a prime of ours
-use mathlib.Core.Path.{_≡_, sym, ap, _∙_}
+use mathlib.Core.Path.{_≡_, ap, _∙_}
 use mathlib.Core.List.{List}
 use Prim.Native.Nat.{ℕ, _+_, _-_, _*_, _/_, _%_, _^_, _<_, _≤_, min}
 use native.Mathlib.Nat.{mul-le-mul, mul-le-mul-right, mod-lt, div-lt-iff-lt-mul, le-of-lt}
-use native.Mathlib.Numerals.{add-one}
 use native.Mathlib.Omega.{arith}
 use lib.ListN.{length, getD, take, drop, length-drop}
-use lib.Seq.{getD-drop, take-all, ext-getD}
+use lib.Seq.{getD-drop, take-all}
 use Rattle.algebra.specs.Lists.{tab, entry, AllBelow}
 use Rattle.algebra.specs.Sums.{sum}
 use Rattle.algebra.proofs.Orders.{row-end}
@@ -28,8 +25,7 @@ use Rattle.field.specs.Modulus.{prime}
 use Rattle.field.proofs.Moduli.{prime-prime, sums-fit}
 use Rattle.sums.specs.Sums.{zeros, reduced}
 use Rattle.sums.proofs.Reduced.{reduced-tab}
-use Rattle.rows.specs.Combination.{plus}
-use Rattle.rows.proofs.Steps.{rest-more}
+use Rattle.rows.proofs.Steps.{drop-clipped}
 use Rattle.pieces.specs.declared.Shape.{Shape}
 use Rattle.pieces.specs.Pieces.{blockCount, blockLength, pieceCount, pieceBlock, pieceRow, answerTerms, pieceSum, Sized, Ready, There}
 
@@ -69,34 +65,6 @@ placed s places w sized h =
       size = mul-le-mul (sized .rows) (sized .columns);
     }
 
--- ---- its sums
-
-module _ (sums : List ℕ) (f : ℕ → ℕ → ℕ) where
-  unfoldable pub sumsTo : ℕ → List ℕ
-  sumsTo c = tab (λ v. (getD sums v 0 + sum c (λ h. f h v)) % 2 ^ 64) (length sums)
-
-  pub length-sums : (c : ℕ) → length (sumsTo c) ≡ length sums
-  unfolding sumsTo
-  length-sums c = length-tab _ (length sums)
-
-  pub sums-none : ((v : ℕ) → v < length sums → getD sums v 0 < 2 ^ 64) → sums ≡ sumsTo 0
-  unfolding sumsTo sum
-  sums-none small =
-      ext-getD 0 sums (sumsTo 0) (sym (length-sums 0)) (λ v l.
-      let fits = small v l in
-      let same : getD sums v 0 ≡ (getD sums v 0 + 0) % 2 ^ 64 = omega arith in
-      same ∙ sym (getD-tab _ (length sums) v 0 l))
-
-  pub sums-more : (now row : List ℕ) (weight c : ℕ) → now ≡ sumsTo c → ((v : ℕ) → weight * getD row v 0 ≡ f c v) → plus now weight row ≡ sumsTo (c + 1)
-  unfolding sumsTo sum plus
-  sums-more now row weight c e is =
-      rw add-one
-      (ap (tab (λ v. (getD now v 0 + weight * getD row v 0) % 2 ^ 64)) (ap length e ∙ length-sums c)
-      ∙ tab-cong _ _ (length sums) (λ v l.
-      let before : getD now v 0 ≡ (getD sums v 0 + sum c (λ h. f h v)) % 2 ^ 64 = ap (λ (xs : List ℕ). getD xs v 0) e ∙ getD-tab _ (length sums) v 0 l in
-      let more : (getD now v 0 + weight * getD row v 0) % 2 ^ 64 ≡ (getD sums v 0 + (sum c (λ h. f h v) + f c v)) % 2 ^ 64 = omega (arith, is v) in
-      more))
-
 -- a list from some place on, up to its end
 module _ (xs : List ℕ) (k : ℕ) where
   pub rest-is : take (length xs - k) (drop k xs) ≡ drop k xs
@@ -105,9 +73,7 @@ module _ (xs : List ℕ) (k : ℕ) where
   -- the place is clipped at the end
   pub rest-clipped : (start : ℕ) → start ≡ min k (length xs) → take (length xs - start) (drop start xs) ≡ drop k xs
   rest-clipped start e =
-      let none : 0 ≡ 0 * k = omega arith in
-      let once : (0 + 1) * k ≡ k = omega arith in
-      rest-more xs xs 0 k start (ap (λ (n : ℕ). drop n xs) none) e ∙ ap (λ (n : ℕ). drop n xs) once
+      take-all (length xs - start) (drop start xs) (omega (arith, length-drop start xs)) ∙ ap (λ (n : ℕ). drop n xs) e ∙ drop-clipped xs k
 
 -- ---- what it is made of
 

@@ -23,7 +23,7 @@ use Rattle.algebra.proofs.Grids.{length-grid, below-grid}
 use Rattle.refusal.specs.Chain.{first, outside}
 use Rattle.field.specs.Modulus.{noModulus}
 use Rattle.refusal.specs.Limits.{anyOutside, sizesOutside, overBlock}
-use Rattle.refusal.proofs.Chains.{first-none, first-miss, answer-done}
+use Rattle.refusal.proofs.Chains.{first-none, first-miss, answer-done, inside}
 use Rattle.refusal.proofs.Limits.{Within}
 use Rattle.plan.specs.Planning.{prime, parameters, blockRows, blockInner, blockColumns, planOf}
 use Rattle.plan.proofs.Facts.{Fits, facts}
@@ -38,7 +38,6 @@ use Rattle.product.specs.Product.{productOf, lengthTest, productTests, productA
 use Rattle.header.specs.declared.Header.{Header}
 use Rattle.header.specs.Header.{elementCount, kindTest, hostTest, sizeTest, blockTest, fieldTests}
 use Rattle.message.specs.Format.{elementTest, writeTests, written}
-use Rattle.header.proofs.Fields.{inside}
 use Rattle.message.proofs.Fields.{writes}
 use Rattle.message.proofs.Answers.{written-done}
 use Rattle.promise.specs.Demand3.{Task, Accepted, Masks, Made, matrix, kindOf, headerFor, shareHeader, answerHeader, shareMessage, trueProduct}

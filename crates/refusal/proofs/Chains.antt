@@ -10,13 +10,14 @@
 --   first-append-hit         the first list tells a number already
 --   answer-refused, answer-done  an answer by its number
 --   inside-low, inside-high  what a number in its range tells
-use mathlib.Core.Path.{_≡_, refl, sym, ap, subst}
-use mathlib.Core.Bool.{Bool, true, false, not, cond, _&&_}
+--   inside, under, over      a number is in a range, or is not
+use mathlib.Core.Path.{_≡_, refl, sym, ap, ap₂, subst}
+use mathlib.Core.Bool.{Bool, true, false, not, cond, _&&_, _||_}
 use mathlib.Core.List.{List, [], _∷_, _++_}
-use Prim.Native.Nat.{ℕ, zero, suc, _≤_}
+use Prim.Native.Nat.{ℕ, zero, suc, _<_, _≤_}
 use native.Mathlib.Nat.{suc-ne-zero}
 use lib.Dec.{T, eqb, ltb, T-not, eqb-refl}
-use borrow.Author.Tests.{ltb-false}
+use borrow.Author.Tests.{ltb-false, lt-ltb, le-ltb}
 use Rattle.algebra.proofs.Tests.{and-left, and-right, both, or-left, or-right}
 use Rattle.refusal.specs.Chain.{Row, first, answer, outside}
 
@@ -97,3 +98,16 @@ inside-low low high n e = ltb-false n low (or-left (ltb n low) (ltb high n) e)
 pub inside-high : (low high n : ℕ) → outside low high n ≡ false → n ≤ high
 unfolding outside
 inside-high low high n e = ltb-false high n (or-right (ltb n low) (ltb high n) e)
+
+module _ (low high n : ℕ) where
+  pub inside : low ≤ n → n ≤ high → outside low high n ≡ false
+  unfolding outside
+  inside l h = ap₂ _||_ (le-ltb n low l) (le-ltb high n h)
+
+  pub under : n < low → outside low high n ≡ true
+  unfolding outside
+  under l = ap (λ (b : Bool). b || ltb high n) (lt-ltb n low l)
+
+  pub over : low ≤ n → high < n → outside low high n ≡ true
+  unfolding outside
+  over l h = ap₂ _||_ (le-ltb n low l) (lt-ltb high n h)

@@ -1,10 +1,12 @@
--- The loop of `add_rows`: the combination of the first i rows, and the row that comes next.
+-- Sums of 64 bits, to which rows are added one by one; and the loop of `add_rows`: the row that comes next.
 --
---   upTo                      each sum plus the combination of the first i rows, in 64 bits
---   length-up-to              as many as before
---   up-to-none, up-to-more    no row, and one more
---   up-to-all                 every row
+--   sumsTo                    each sum with the terms f k of the first i rows k, in 64 bits
+--   length-sums               as many as before
+--   sums-none, sums-more      no row, and one more
+--   rowTerm                   a weight times its row: row k begins k strides into the source
+--   one-row, all-rows         one row more, and every row
 --   plus-twice                two rows, one after the other
+--   drop-clipped              past the end there is nothing to drop
 --   rest-more                 what is left of the source after one more row, clipped at its end
 --   rest-short                it is no longer than the source
 use mathlib.Core.Path.{_≡_, refl, sym, ap, _∙_}
@@ -22,45 +24,51 @@ use Rattle.algebra.proofs.Lists.{length-tab, getD-tab}
 use Rattle.algebra.proofs.Grids.{tab-cong}
 use Rattle.rows.specs.Combination.{plus, combination, added}
 
-module _ (sums weights source : List ℕ) (stride : ℕ) where
-  unfoldable pub upTo : ℕ → List ℕ
-  upTo i = tab (λ j. (getD sums j 0 + sum i (λ k. getD weights k 0 * entry stride source k j)) % 2 ^ 64) (length sums)
+module _ (sums : List ℕ) (f : ℕ → ℕ → ℕ) where
+  unfoldable pub sumsTo : ℕ → List ℕ
+  sumsTo i = tab (λ j. (getD sums j 0 + sum i (λ k. f k j)) % 2 ^ 64) (length sums)
 
-  pub length-up-to : (i : ℕ) → length (upTo i) ≡ length sums
-  unfolding upTo
-  length-up-to i = length-tab _ (length sums)
+  pub length-sums : (i : ℕ) → length (sumsTo i) ≡ length sums
+  unfolding sumsTo
+  length-sums i = length-tab _ (length sums)
 
-  pub up-to-none : ((j : ℕ) → j < length sums → getD sums j 0 < 2 ^ 64) → sums ≡ upTo 0
-  unfolding upTo sum
-  up-to-none small =
-      ext-getD 0 sums (upTo 0) (sym (length-up-to 0)) (λ j l.
+  pub sums-none : ((j : ℕ) → j < length sums → getD sums j 0 < 2 ^ 64) → sums ≡ sumsTo 0
+  unfolding sumsTo sum
+  sums-none small =
+      ext-getD 0 sums (sumsTo 0) (sym (length-sums 0)) (λ j l.
       let fits = small j l in
       let same : getD sums j 0 ≡ (getD sums j 0 + 0) % 2 ^ 64 = omega arith in
       same ∙ sym (getD-tab _ (length sums) j 0 l))
 
-  pub up-to-more : (now row next : List ℕ) (i : ℕ) → now ≡ upTo i → row ≡ drop (i * stride) source
-      → next ≡ plus now (getD weights i 0) row → next ≡ upTo (i + 1)
-  unfolding upTo sum entry plus
-  up-to-more now row next i e r n =
-      let same : length now ≡ length sums = ap length e ∙ length-up-to i in
+  pub sums-more : (now row : List ℕ) (weight i : ℕ) → now ≡ sumsTo i → ((j : ℕ) → weight * getD row j 0 ≡ f i j)
+      → plus now weight row ≡ sumsTo (i + 1)
+  unfolding sumsTo sum plus
+  sums-more now row weight i e is =
       rw add-one
-      (n
-      ∙ ap (tab (λ j. (getD now j 0 + getD weights i 0 * getD row j 0) % 2 ^ 64)) same
+      (ap (tab (λ j. (getD now j 0 + weight * getD row j 0) % 2 ^ 64)) (ap length e ∙ length-sums i)
       ∙ tab-cong _ _ (length sums) (λ j l.
-      let so-far = sum i (λ k. getD weights k 0 * entry stride source k j) in
-      let before : getD now j 0 ≡ (getD sums j 0 + so-far) % 2 ^ 64
+      let before : getD now j 0 ≡ (getD sums j 0 + sum i (λ k. f k j)) % 2 ^ 64
       = ap (λ (xs : List ℕ). getD xs j 0) e ∙ getD-tab _ (length sums) j 0 l in
-      let element : getD row j 0 ≡ entry stride source i j = ap (λ (xs : List ℕ). getD xs j 0) r ∙ getD-drop (i * stride) source j 0 in
-      let term : getD weights i 0 * getD row j 0 ≡ getD weights i 0 * entry stride source i j
-      = ap (λ (x : ℕ). getD weights i 0 * x) element in
-      let sum-of : (getD now j 0 + getD weights i 0 * getD row j 0) % 2 ^ 64
-      ≡ (getD sums j 0 + (so-far + getD weights i 0 * entry stride source i j)) % 2 ^ 64
-      = omega arith in
-      sum-of))
+      let more : (getD now j 0 + weight * getD row j 0) % 2 ^ 64 ≡ (getD sums j 0 + (sum i (λ k. f k j) + f i j)) % 2 ^ 64
+      = omega (arith, is j) in
+      more))
 
-  pub up-to-all : upTo (length weights) ≡ added sums weights source stride
-  unfolding upTo combination added
-  up-to-all = refl
+module _ (weights source : List ℕ) (stride : ℕ) where
+  unfoldable pub rowTerm : ℕ → ℕ → ℕ
+  rowTerm k j = getD weights k 0 * entry stride source k j
+
+  row-term : (row : List ℕ) (k : ℕ) → row ≡ drop (k * stride) source → (j : ℕ) → getD weights k 0 * getD row j 0 ≡ rowTerm k j
+  unfolding rowTerm entry
+  row-term row k r j =
+      ap (λ (x : ℕ). getD weights k 0 * x) (ap (λ (xs : List ℕ). getD xs j 0) r ∙ getD-drop (k * stride) source j 0)
+
+  pub one-row : (sums now row : List ℕ) (i : ℕ) → now ≡ sumsTo sums rowTerm i → row ≡ drop (i * stride) source
+      → plus now (getD weights i 0) row ≡ sumsTo sums rowTerm (i + 1)
+  one-row sums now row i e r = sums-more sums rowTerm now row (getD weights i 0) i e (row-term row i r)
+
+  pub all-rows : (sums : List ℕ) → sumsTo sums rowTerm (length weights) ≡ added sums weights source stride
+  unfolding sumsTo rowTerm combination added
+  all-rows sums = refl
 
 pub plus-twice : (sums : List ℕ) (weight : ℕ) (row : List ℕ) (second : ℕ) (next : List ℕ)
     → tab (λ j. ((getD sums j 0 + weight * getD row j 0) % 2 ^ 64 + second * getD next j 0) % 2 ^ 64) (length sums)
@@ -72,8 +80,7 @@ plus-twice sums weight row second next =
     tab-cong _ _ n (λ j l. ap (λ (x : ℕ). (x + second * getD next j 0) % 2 ^ 64) (sym (getD-tab f n j 0 l)))
     ∙ ap (tab (λ j. (getD (tab f n) j 0 + second * getD next j 0) % 2 ^ 64)) (sym (length-tab f n))
 
--- past the end there is nothing to drop
-drop-clipped : (xs : List ℕ) (n : ℕ) → drop (min n (length xs)) xs ≡ drop n xs
+pub drop-clipped : (xs : List ℕ) (n : ℕ) → drop (min n (length xs)) xs ≡ drop n xs
 drop-clipped xs n =
     ⊎-elim (λ (h : n ≤ length xs). let is : min n (length xs) ≡ n = omega arith in ap (λ (k : ℕ). drop k xs) is)
     (λ (h : length xs < n).

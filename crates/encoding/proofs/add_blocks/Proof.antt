@@ -1,6 +1,6 @@
 -- `encoding::add_blocks` meets its contract.
 use mathlib.Core.Path.{_≡_, refl, ap, ap₂, _∙_}
-use mathlib.Core.List.{List, []}
+use mathlib.Core.List.{List}
 use Prim.Native.Nat.{ℕ, _+_, _-_, _*_, _%_, _^_, _≤_}
 use native.Mathlib.Nat.{le-refl, add-sub-cancel-left}
 use native.Mathlib.Numerals.{add-one}
@@ -12,7 +12,7 @@ use Rattle.algebra.specs.Lists.{tab}
 use Rattle.algebra.specs.Sums.{sum}
 use Rattle.algebra.proofs.Grids.{tab-cong}
 use Rattle.rows.specs.Combination.{combination, added}
-use Rattle.rows.proofs.Steps.{upTo, up-to-none}
+use Rattle.rows.proofs.Steps.{sumsTo, sums-none}
 use Rattle.rows.proofs.Exact.{added-more}
 use Rattle.weights.proofs.Parts.{Part, row-part}
 use Rattle.encoding.specs.Encoding.{blockTerms}
@@ -46,10 +46,10 @@ mul-width : tie.Need-mul-width Inv-loop μ-loop
 mul-width c = let e = c .before .before .before in width-fits (e .args .s) (e .pre .0)
 
 loop-holds : tie.Need-loop-holds Inv-loop μ-loop
-unfolding upTo sum
+unfolding sumsTo sum
 loop-holds c =
     let a = c .before .before .before .args in
-    record { is = up-to-none (a .sums .now) [] [] 0 (λ j l. c .slice-known .given j .fits); short = omega arith; same = refl }
+    record { is = sums-none (a .sums .now) (λ h j. 0) (λ j l. c .slice-known .given j .fits); short = omega arith; same = refl }
 
 -- the weights of row k of the blocks, and row i of it
 weights-row : (c : tie.In-loop Inv-loop μ-loop)

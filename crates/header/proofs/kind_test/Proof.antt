@@ -2,7 +2,7 @@
 use mathlib.Core.Path.{sym}
 use native.Mathlib.Omega.{arith}
 use Rattle.header.specs.Header.{kindTest}
-use Rattle.header.proofs.Fields.{inside, under, over}
+use Rattle.refusal.proofs.Chains.{inside, under, over}
 use Rattle.header.proofs.kind_test.Statement.{statement}
 use Rattle.header.proofs.kind_test.Tie as tie
 

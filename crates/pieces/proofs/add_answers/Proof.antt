@@ -9,7 +9,7 @@ use lib.Seq.{getD-drop}
 use Rattle.algebra.specs.Lists.{entry}
 use Rattle.rows.specs.Combination.{plus}
 use Rattle.pieces.specs.Pieces.{answerTerms}
-use Rattle.pieces.proofs.Pieces.{sumsTo, length-sums, sums-none, sums-more}
+use Rattle.rows.proofs.Steps.{sumsTo, length-sums, sums-none, sums-more}
 use Rattle.pieces.proofs.add_answers.Statement.{statement}
 use Rattle.pieces.proofs.add_answers.Tie as tie
 

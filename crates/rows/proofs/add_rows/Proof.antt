@@ -1,18 +1,18 @@
 -- `rows::add_rows` meets its contract.
-use mathlib.Core.Path.{_≡_, refl, ap, _∙_}
+use mathlib.Core.Path.{_≡_, ap, _∙_}
 use Prim.Native.Nat.{ℕ, _+_, _-_, _*_, _≤_}
 use native.Mathlib.Omega.{arith}
 use borrow.Author.Needs.{needs}
 use lib.ListN.{length, getD, take, drop}
 use Rattle.rows.specs.Combination.{plus}
-use Rattle.rows.proofs.Steps.{upTo, length-up-to, up-to-none, up-to-more, up-to-all, rest-more, rest-short}
+use Rattle.rows.proofs.Steps.{sumsTo, length-sums, sums-none, rowTerm, one-row, all-rows, rest-more, rest-short}
 use Rattle.rows.proofs.add_rows.Statement.{statement}
 use Rattle.rows.proofs.add_rows.Tie as tie
 
 abbrev Inv-loop : tie.InvT-loop
 Inv-loop sums₀ weights source stride rest₀ i₀ sums rest i =
     record {
-      is : sums ≡ upTo sums₀ weights source stride i;
+      is : sums ≡ sumsTo sums₀ (rowTerm weights source stride) i;
       row : rest ≡ drop (i * stride) source;
       short : length rest ≤ length source;
       few : i ≤ length weights;
@@ -27,7 +27,7 @@ loop-holds c =
     let a = s .before .args in
     let start : 0 ≡ 0 * a .stride = omega arith in
     record {
-      is = up-to-none (a .sums .now) (a .weights .now) (a .source .now) (a .stride) (λ j l. s .slice-known .given j .fits);
+      is = sums-none (a .sums .now) (rowTerm (a .weights .now) (a .source .now) (a .stride)) (λ j l. s .slice-known .given j .fits);
       row = ap (λ (k : ℕ). drop k (a .source .now)) start;
       short = omega arith;
       few = omega arith;
@@ -83,8 +83,8 @@ loop-again c =
     let added = c .before .before .add-row in
     record {
       is =
-          up-to-more (a .sums .now) (a .weights .now) (a .source .now) (a .stride) (l .sums) (l .rest .now) (added .last .0) (l .i) (l .inv .is) (l .inv .row)
-          (added .ensures);
+          added .ensures
+          ∙ one-row (a .weights .now) (a .source .now) (a .stride) (a .sums .now) (l .sums) (l .rest .now) (l .i) (l .inv .is) (l .inv .row);
       row = next-row k;
       short = rest-short (a .source .now) _ (l .i + 1) (a .stride) (next-row k);
       few = omega arith;
@@ -136,12 +136,13 @@ loop-again-2 c =
     let l = k .before .before .loop in
     let a = k .before .before .before .before .before .before .args in
     let next = take (length (l .rest .now) - k .least .result) (drop (k .least .result) (l .rest .now)) in
-    let once = up-to-more (a .sums .now) (a .weights .now) (a .source .now) (a .stride) (l .sums) (l .rest .now) (plus (l .sums) (getD (a .weights .now) (l .i) 0) (l .rest .now)) (l .i) (l .inv .is) (l .inv .row) refl in
-    let twice = up-to-more (a .sums .now) (a .weights .now) (a .source .now) (a .stride) (plus (l .sums) (getD (a .weights .now) (l .i) 0) (l .rest .now)) next (pair .add-pair .last .0) (l .i + 1) once (next-row k) (pair .add-pair .ensures) in
+    let more = one-row (a .weights .now) (a .source .now) (a .stride) (a .sums .now) in
+    let once = more (l .sums) (l .rest .now) (l .i) (l .inv .is) (l .inv .row) in
+    let twice = more (plus (l .sums) (getD (a .weights .now) (l .i) 0) (l .rest .now)) next (l .i + 1) once (next-row k) in
     let row = rest-more (a .source .now) next (l .i + 1) (a .stride) (c .before .least2 .result) (next-row k) (c .before .least2 .ensures) in
     let two : l .i + 1 + 1 ≡ l .i + 2 = omega arith in
     record {
-      is = twice ∙ ap (upTo (a .sums .now) (a .weights .now) (a .source .now) (a .stride)) two;
+      is = pair .add-pair .ensures ∙ twice ∙ ap (sumsTo (a .sums .now) (rowTerm (a .weights .now) (a .source .now) (a .stride))) two;
       row = row ∙ ap (λ (n : ℕ). drop (n * a .stride) (a .source .now)) two;
       short = rest-short (a .source .now) _ (l .i + 1 + 1) (a .stride) row;
       few = omega arith;
@@ -151,7 +152,7 @@ same-length : tie.Need-same-length Inv-loop μ-loop
 same-length c =
     let a = c .before .before .before .before .before .args in
     let l = c .before .loop in
-    ap length (l .inv .is) ∙ length-up-to (a .sums .now) (a .weights .now) (a .source .now) (a .stride) (l .i)
+    ap length (l .inv .is) ∙ length-sums (a .sums .now) (rowTerm (a .weights .now) (a .source .now) (a .stride)) (l .i)
 
 returns : tie.Need-returns Inv-loop μ-loop
 returns c =
@@ -159,8 +160,8 @@ returns c =
     let l = c .before .loop in
     let all : l .i ≡ length (a .weights .now) = omega arith in
     l .inv .is
-    ∙ ap (upTo (a .sums .now) (a .weights .now) (a .source .now) (a .stride)) all
-    ∙ up-to-all (a .sums .now) (a .weights .now) (a .source .now) (a .stride)
+    ∙ ap (sumsTo (a .sums .now) (rowTerm (a .weights .now) (a .source .now) (a .stride))) all
+    ∙ all-rows (a .weights .now) (a .source .now) (a .stride) (a .sums .now)
 
 pub add-rows-spec : {M : Type 1} → statement M
 add-rows-spec =
