@@ -8,6 +8,7 @@
 --   below-test                a list of small numbers passes it
 --   below-anywhere            past the end of a list stands 0
 --   below-append, below-tab   small numbers after small numbers, and a tabulated list of them
+--   rest-is                   a list from some place on, up to its end
 --   below-drop, below-part    a part of a list
 --   below-none, below-step, below-more, below-all  the test, element by element
 --   below-stop                one element that is not below
@@ -15,7 +16,7 @@ use mathlib.Core.Path.{_≡_, refl, sym, ap, ap₂, _∙_}
 use mathlib.Core.Bool.{Bool, true, false, _&&_}
 use mathlib.Core.Logic.{⊎-elim}
 use mathlib.Core.List.{List, [], _∷_, _++_, map}
-use Prim.Native.Nat.{ℕ, zero, suc, _+_, _<_, _≤_, suc-le-suc}
+use Prim.Native.Nat.{ℕ, zero, suc, _+_, _-_, _<_, _≤_, suc-le-suc}
 use native.Mathlib.Nat.{not-suc-le-zero, le-of-suc-le-suc, eq-or-lt-of-le}
 use native.Mathlib.Numerals.{add-one}
 use native.Mathlib.Omega.{arith}
@@ -90,6 +91,9 @@ below-append q (x ∷ xs) ys b c (suc i) h = below-append q xs ys (λ j l. b (su
 
 pub below-tab : (q : ℕ) (f : ℕ → ℕ) (n : ℕ) → ((i : ℕ) → f i < q) → AllBelow q (tab f n)
 below-tab q f n h i l = omega (arith, getD-tab f n i 0 (omega (arith, length-tab f n)), h i)
+
+pub rest-is : (xs : List ℕ) (k : ℕ) → take (length xs - k) (drop k xs) ≡ drop k xs
+rest-is xs k = take-all (length xs - k) (drop k xs) (omega (arith, length-drop k xs))
 
 pub below-drop : (q : ℕ) (xs : List ℕ) → AllBelow q xs → (k : ℕ) → AllBelow q (drop k xs)
 below-drop q xs h k i l =

@@ -9,9 +9,10 @@ use mathlib.Core.List.{List, _++_, append-nil}
 use Prim.Native.Nat.{ℕ, _+_, _*_, _/_, _-_, _≤_}
 use native.Mathlib.Omega.{arith}
 use lib.ListN.{length, take, drop, length-drop, drop-of-length-le}
-use lib.Seq.{take-all, take-length, take-at}
+use lib.Seq.{take-length, take-at}
 use Rattle.text.specs.Decimal.{put}
 use Rattle.text.proofs.Puts.{put-fits, length-put}
+use Rattle.algebra.proofs.Lists.{rest-is}
 use Rattle.big_endian.specs.Bytes.{bytesOf, elementsOf, common}
 use Rattle.big_endian.proofs.Words.{written-exact}
 use Rattle.header.specs.declared.Header.{Header}
@@ -23,11 +24,8 @@ abbrev pub Rest : List ℕ → List ℕ
 Rest bytes = take (length bytes - 16) (drop 16 bytes)
 
 module _ (bytes : List ℕ) (n : ℕ) (whole : length bytes ≡ 16 + 4 * n) where
-  rest : Rest bytes ≡ drop 16 bytes
-  rest = take-all (length bytes - 16) (drop 16 bytes) (omega (arith, length-drop 16 bytes))
-
   length-rest : length (Rest bytes) ≡ 4 * n
-  length-rest = ap length rest ∙ omega (arith, length-drop 16 bytes)
+  length-rest = ap length (rest-is bytes 16) ∙ omega (arith, length-drop 16 bytes)
 
 module _ (message : List ℕ) (whole : length message ≡ 16 + 4 * elementCount (headerOf message)) where
   pub elements-part : elementsOf (length (Rest message) / 4) (Rest message) ≡ elements message
@@ -35,7 +33,7 @@ module _ (message : List ℕ) (whole : length message ≡ 16 + 4 * elementCount 
   elements-part =
       let count : length (Rest message) / 4 ≡ elementCount (headerOf message)
       = omega (arith, length-rest message (elementCount (headerOf message)) whole) in
-      ap₂ elementsOf count (rest message (elementCount (headerOf message)) whole)
+      ap₂ elementsOf count (rest-is message 16)
 
   pub read-part : (out : List ℕ) → elementCount (headerOf message) ≤ length out
       → elementsOf (common (Rest message) out) (Rest message) ++ drop (common (Rest message) out) out
@@ -44,7 +42,7 @@ module _ (message : List ℕ) (whole : length message ≡ 16 + 4 * elementCount 
   read-part out h =
       let n = length-rest message (elementCount (headerOf message)) whole in
       let count : common (Rest message) out ≡ elementCount (headerOf message) = omega arith in
-      ap₂ (λ (n : ℕ) (p : List ℕ). elementsOf n p ++ drop n out) count (rest message (elementCount (headerOf message)) whole)
+      ap₂ (λ (n : ℕ) (p : List ℕ). elementsOf n p ++ drop n out) count (rest-is message 16)
 
 module _ (h : Header) (xs out out′ part : List ℕ) (whole : length out ≡ 16 + 4 * length xs) (head : out′ ≡ put out 0 (header h))
     (body : part ≡ bytesOf (take (common (Rest out′) xs) xs) ++ drop (common (Rest out′) xs * 4) (Rest out′)) where

@@ -3,17 +3,16 @@
 --   Placed s w       piece w: its block and its row are within the table's
 --   placed           so is each piece
 --   few-pieces       how many rows and pieces a table has at most
---   rest-is, rest-clipped   a list from some place on, up to its end
 --   block-there, piece-there   the weights of a piece are there
 --   reduced-piece    cleared sums with all the terms: reduced, they are the piece
 --   piece-fits       a piece's sum stays below 2 ^ 64, where the weights and the answers are below a prime of ours
 use mathlib.Core.Path.{_≡_, ap, _∙_}
 use mathlib.Core.List.{List}
-use Prim.Native.Nat.{ℕ, _+_, _-_, _*_, _/_, _%_, _^_, _<_, _≤_, min}
+use Prim.Native.Nat.{ℕ, _+_, _-_, _*_, _/_, _%_, _^_, _<_, _≤_}
 use native.Mathlib.Nat.{mul-le-mul, mul-le-mul-right, mod-lt, div-lt-iff-lt-mul, le-of-lt}
 use native.Mathlib.Omega.{arith}
-use lib.ListN.{length, getD, take, drop, length-drop}
-use lib.Seq.{getD-drop, take-all}
+use lib.ListN.{length, getD, drop, length-drop}
+use lib.Seq.{getD-drop}
 use Rattle.algebra.specs.Lists.{tab, entry, AllBelow}
 use Rattle.algebra.specs.Sums.{sum}
 use Rattle.algebra.proofs.Orders.{row-end}
@@ -25,7 +24,6 @@ use Rattle.field.specs.Modulus.{prime}
 use Rattle.field.proofs.Moduli.{prime-prime, sums-fit}
 use Rattle.sums.specs.Sums.{zeros, reduced}
 use Rattle.sums.proofs.Reduced.{reduced-tab}
-use Rattle.rows.proofs.Steps.{drop-clipped}
 use Rattle.pieces.specs.declared.Shape.{Shape}
 use Rattle.pieces.specs.Pieces.{blockCount, blockLength, pieceCount, pieceBlock, pieceRow, answerTerms, pieceSum, Sized, Ready, There}
 
@@ -64,16 +62,6 @@ placed s places w sized h =
       row = row-end (s .columns) (mod-lt (w / s .across) (sized .tall));
       size = mul-le-mul (sized .rows) (sized .columns);
     }
-
--- a list from some place on, up to its end
-module _ (xs : List ℕ) (k : ℕ) where
-  pub rest-is : take (length xs - k) (drop k xs) ≡ drop k xs
-  rest-is = take-all (length xs - k) (drop k xs) (omega (arith, length-drop k xs))
-
-  -- the place is clipped at the end
-  pub rest-clipped : (start : ℕ) → start ≡ min k (length xs) → take (length xs - start) (drop start xs) ≡ drop k xs
-  rest-clipped start e =
-      take-all (length xs - start) (drop start xs) (omega (arith, length-drop start xs)) ∙ ap (λ (n : ℕ). drop n xs) e ∙ drop-clipped xs k
 
 -- ---- what it is made of
 

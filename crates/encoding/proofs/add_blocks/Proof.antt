@@ -6,10 +6,10 @@ use native.Mathlib.Nat.{le-refl, add-sub-cancel-left}
 use native.Mathlib.Numerals.{add-one}
 use native.Mathlib.Omega.{arith}
 use borrow.Author.Needs.{needs}
-use lib.ListN.{length, getD, take, drop, length-drop}
-use lib.Seq.{take-all}
+use lib.ListN.{length, getD, take, drop}
 use Rattle.algebra.specs.Lists.{tab}
 use Rattle.algebra.specs.Sums.{sum}
+use Rattle.algebra.proofs.Lists.{rest-is}
 use Rattle.algebra.proofs.Grids.{tab-cong}
 use Rattle.rows.specs.Combination.{combination, added}
 use Rattle.rows.proofs.Steps.{sumsTo, sums-none}
@@ -115,12 +115,11 @@ loop-again c =
     let k = l .before .loop .k in
     let from = (k * a .s .rows + a .i) * (a .s .across * a .s .columns) in
     let f : ℕ → ℕ = λ j. getD (a .sums .now) j 0 + sum k (λ h. part (a .s .across) (a .s .rows) (a .s .columns) (a .s .across * a .s .columns) (a .weights .now) (a .xs .now) (a .i) h j) in
-    let rest : take (length (a .xs .now) - from) (drop from (a .xs .now)) ≡ drop from (a .xs .now) = take-all (length (a .xs .now) - from) (drop from (a .xs .now)) (omega (arith, length-drop from (a .xs .now))) in
     let row : take (k * a .s .across + a .s .across - k * a .s .across) (drop (k * a .s .across) (a .weights .now)) ≡ take (a .s .across) (drop (k * a .s .across) (a .weights .now)) = rw add-sub-cancel-left in
     record {
       is =
           c .before .before .add-rows .ensures
-          ∙ ap₂ (λ (w m : List ℕ). added (l .before .loop .sums) w m (a .s .columns)) row rest
+          ∙ ap₂ (λ (w m : List ℕ). added (l .before .loop .sums) w m (a .s .columns)) row (rest-is (a .xs .now) from)
           ∙ added-more _ _ (a .s .columns) f (length (a .sums .now)) (l .before .loop .sums) (l .before .loop .inv .is)
           ∙ terms-step (a .sums .now) (λ h j. part (a .s .across) (a .s .rows) (a .s .columns) (a .s .across * a .s .columns) (a .weights .now) (a .xs .now) (a .i) h j) k;
       short = omega arith;

@@ -5,8 +5,8 @@ use Prim.Native.Nat.{ℕ, _+_, _-_, _*_}
 use native.Mathlib.Nat.{le-refl, add-sub-cancel-left}
 use native.Mathlib.Omega.{arith}
 use borrow.Author.Needs.{needs}
-use lib.ListN.{length, take, drop, length-drop}
-use lib.Seq.{take-all}
+use lib.ListN.{length, take, drop}
+use Rattle.algebra.proofs.Lists.{rest-is}
 use Rattle.rows.specs.Combination.{added}
 use Rattle.weights.proofs.Parts.{Part, masks-part}
 use Rattle.encoding.specs.Encoding.{maskTerms}
@@ -70,9 +70,7 @@ returns c =
     let n = a .s .down * a .s .across in
     let from = a .i * a .s .columns in
     let ws : take (n + a .s .count - n) (drop n (a .weights .now)) ≡ take (a .s .count) (drop n (a .weights .now)) = rw add-sub-cancel-left in
-    let rest : take (length (a .masks .now) - from) (drop from (a .masks .now)) ≡ drop from (a .masks .now)
-    = take-all (length (a .masks .now) - from) (drop from (a .masks .now)) (omega (arith, length-drop from (a .masks .now))) in
-    c .before .before .add-rows .ensures ∙ ap₂ (λ (w m : List ℕ). added (a .sums .now) w m (a .s .rows * a .s .columns)) ws rest
+    c .before .before .add-rows .ensures ∙ ap₂ (λ (w m : List ℕ). added (a .sums .now) w m (a .s .rows * a .s .columns)) ws (rest-is (a .masks .now) from)
 
 pub add-masks-spec : {M : Type 1} → statement M
 add-masks-spec =

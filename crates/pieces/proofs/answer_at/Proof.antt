@@ -3,7 +3,7 @@ use Prim.Native.Nat.{_*_, _≤_}
 use native.Mathlib.Nat.{mul-le-mul}
 use native.Mathlib.Omega.{arith}
 use borrow.Author.Needs.{needs}
-use Rattle.pieces.proofs.Pieces.{rest-clipped}
+use Rattle.rows.proofs.Steps.{rest-clipped}
 use Rattle.pieces.proofs.answer_at.Statement.{statement}
 use Rattle.pieces.proofs.answer_at.Tie as tie
 

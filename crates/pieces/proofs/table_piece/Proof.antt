@@ -8,8 +8,10 @@ use lib.ListN.{length, getD, take, drop}
 use Rattle.algebra.specs.Lists.{tab}
 use Rattle.field.specs.Modulus.{prime}
 use Rattle.sums.specs.Sums.{zeros}
+use Rattle.algebra.proofs.Lists.{rest-is}
+use Rattle.rows.proofs.Steps.{rest-clipped}
 use Rattle.pieces.specs.Pieces.{blockCount, blockLength, pieceCount, pieceBlock, pieceRow, answerTerms, pieceSum}
-use Rattle.pieces.proofs.Pieces.{Placed, placed, rest-is, rest-clipped, block-there, piece-there, reduced-piece}
+use Rattle.pieces.proofs.Pieces.{Placed, placed, block-there, piece-there, reduced-piece}
 use Rattle.pieces.proofs.table_piece.Statement.{statement}
 use Rattle.pieces.proofs.table_piece.Tie as tie
 
