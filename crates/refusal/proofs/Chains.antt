@@ -9,6 +9,8 @@
 --   first-append-clear       no test of either holds
 --   first-append-hit         the first list tells a number already
 --   answer-refused, answer-done  an answer by its number
+--   answer-map               a function of an answer
+--   told-number              the number that an answer says on paper
 --   inside-low, inside-high  what a number in its range tells
 --   inside, under, over      a number is in a range, or is not
 use mathlib.Core.Path.{_≡_, refl, sym, ap, ap₂, subst}
@@ -19,7 +21,7 @@ use native.Mathlib.Nat.{suc-ne-zero}
 use lib.Dec.{T, eqb, ltb, T-not, eqb-refl}
 use borrow.Author.Tests.{ltb-false, lt-ltb, le-ltb}
 use Rattle.algebra.proofs.Tests.{and-left, and-right, both, or-left, or-right}
-use Rattle.refusal.specs.Chain.{Row, first, answer, outside}
+use Rattle.refusal.specs.Chain.{Row, first, answer, done, refused, outside}
 
 pub first-none : first [] ≡ 0
 unfolding first
@@ -90,6 +92,16 @@ module _ {A : Type 0} (value : A) (refused : ℕ → A) where
   unfolding answer
   answer-refused zero ne = absurd (ne refl)
   answer-refused (suc n) ne = refl
+
+pub answer-map : {A B : Type 0} (f : A → B) (value : A) (refused : ℕ → A) (n : ℕ) → f (answer n value refused) ≡ answer n (f value) (λ k. f (refused k))
+unfolding answer
+answer-map f value refused zero = refl
+answer-map f value refused (suc n) = refl
+
+pub told-number : {A : Type 0} (values : List A) (n : ℕ) → answer n (done values) refused .number ≡ n
+unfolding answer
+told-number values zero = refl
+told-number values (suc n) = refl
 
 pub inside-low : (low high n : ℕ) → outside low high n ≡ false → low ≤ n
 unfolding outside
