@@ -8,12 +8,14 @@
 --   fieldTests h         == the tests of the fields: 16, 1, 12, 2, 6
 --   headerTests message  == the tests of a message's header: 17, 18, 19, and those of its fields
 --   headerRead message   == what reading a message's header answers
+--   fields h             == the fields, in the order of the bytes
+--   told                 == what an answer of reading, of a header or of a message, says on paper: its number, and the fields
 use mathlib.Core.Bool.{Bool, not, _||_}
 use mathlib.Core.List.{List, [], _∷_, _++_}
 use Prim.Native.Nat.{ℕ, _*_}
 use lib.Dec.{eqb, ltb}
 use lib.ListN.{length}
-use Rattle.refusal.specs.Chain.{Row, first, answer, outside}
+use Rattle.refusal.specs.Chain.{Row, first, answer, Told, done, refused, outside}
 use Rattle.field.specs.Modulus.{noModulus}
 use Rattle.big_endian.specs.Bytes.{bigEndian, numberAt}
 use Rattle.header.specs.declared.Header.{Header}
@@ -79,3 +81,10 @@ headerTests message =
 
 unfoldable pub headerRead : List ℕ → Reading
 headerRead message = answer (first (headerTests message)) (Done (headerOf message)) Refused
+
+unfoldable pub fields : Header → List ℕ
+fields h = h .kind ∷ h .modulus ∷ h .host ∷ h .rows ∷ h .columns ∷ h .number ∷ []
+
+abbrev pub told : Reading → Told ℕ
+told (Done h) = done (fields h)
+told (Refused n) = refused n

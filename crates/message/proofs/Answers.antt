@@ -1,23 +1,23 @@
 -- What the calls answer and leave, by their tests.
 --
 --   written-done, written-refused    what writing leaves
---   read-number                      the number of an answer is that of the first test that fits
+--   read-told                        what reading tells on paper: the first number that fits, or the fields
 --   read-short                       the output of reading is too short
 --   read-long                        it is long enough: reading tells what looking over does
 --   read-done                        what reading then leaves
 --   kept-short, kept                 what it leaves where it is refused
-use mathlib.Core.Path.{_≡_, refl, sym, ap, _∙_}
+use mathlib.Core.Path.{_≡_, sym, ap, _∙_}
 use mathlib.Core.List.{List, _++_}
-use Prim.Native.Nat.{ℕ, zero, suc, _<_, _≤_}
+use Prim.Native.Nat.{ℕ, _<_, _≤_}
 use native.Mathlib.Nat.{suc-ne-zero}
 use lib.ListN.{length, drop}
 use borrow.Author.Tests.{lt-ltb, le-ltb}
-use Rattle.refusal.specs.Chain.{first, answer}
-use Rattle.refusal.proofs.Chains.{first-hit, first-miss, answer-done, answer-refused}
+use Rattle.refusal.specs.Chain.{first, answer, done, refused}
+use Rattle.refusal.proofs.Chains.{first-hit, first-miss, answer-done, answer-refused, answer-map}
 use Rattle.header.specs.declared.Header.{Header}
 use Rattle.header.specs.declared.Reading.the-variants.{Done, Refused}
-use Rattle.header.specs.Header.{headerOf, elementCount}
-use Rattle.message.specs.Format.{messageOf, elements, writeTests, messageTests, readTests, written, examined, readAs, readInto, numberOf}
+use Rattle.header.specs.Header.{headerOf, elementCount, fields, told}
+use Rattle.message.specs.Format.{messageOf, elements, writeTests, messageTests, readTests, written, examined, readAs, readInto}
 
 module _ (h : Header) (xs out : List ℕ) where
   pub written-done : first (writeTests h xs (length out)) ≡ 0 → written h xs out ≡ messageOf h xs
@@ -28,16 +28,11 @@ module _ (h : Header) (xs out : List ℕ) where
   unfolding written
   written-refused ne = answer-refused (messageOf h xs) (λ n. out) _ ne
 
-number-told : (h : Header) (n : ℕ) → numberOf (answer n (Done h) Refused) ≡ n
-unfolding answer
-number-told h zero = refl
-number-told h (suc n) = refl
-
 module _ (message : List ℕ) where
   module _ (room : ℕ) where
-    pub read-number : numberOf (readAs message room) ≡ first (readTests message room)
+    pub read-told : told (readAs message room) ≡ answer (first (readTests message room)) (done (fields (headerOf message))) refused
     unfolding readAs
-    read-number = number-told (headerOf message) (first (readTests message room))
+    read-told = answer-map told (Done (headerOf message)) Refused (first (readTests message room))
 
     short-tests : room < 4096 → first (readTests message room) ≡ 13
     unfolding readTests

@@ -16,16 +16,16 @@ use lib.Seq.{drop-at, getD-drop, take-at}
 use Rattle.algebra.specs.Lists.{AllBelow}
 use Rattle.algebra.proofs.Lists.{below-append}
 use Rattle.algebra.proofs.Orders.{le-or-lt}
-use Rattle.refusal.specs.Chain.{first}
+use Rattle.refusal.specs.Chain.{first, done}
 use Rattle.big_endian.specs.Bytes.{bytesOf, elementsOf}
 use Rattle.big_endian.proofs.Bytes.{length-bytesOf, bytesOf-bytes, elements-of-bytes, bytes-of-elements}
 use Rattle.big_endian.proofs.Words.{length-elements}
 use Rattle.header.specs.declared.Header.{Header}
 use Rattle.header.specs.declared.Reading.the-variants.{Done, Refused}
-use Rattle.header.specs.Header.{header, headerOf, elementCount, fieldTests}
+use Rattle.header.specs.Header.{header, headerOf, elementCount, fieldTests, fields, told}
 use Rattle.header.proofs.Fields.{Ranged, ranged}
 use Rattle.header.proofs.Headers.{length-header, header-bytes, mark-header, version-header, headerOf-header, header-headerOf}
-use Rattle.header.proofs.Answers.{done-by, done-told}
+use Rattle.header.proofs.Answers.{done-by, done-told, told-done}
 use Rattle.message.specs.Format.{messageOf, payload, elements, elementTest, writeTests, messageTests, written, examined, readAs, readInto}
 use Rattle.message.specs.RoundTrips.{ReadsBack, IsWritten, RoundTrips}
 use Rattle.message.proofs.Fields.{Writable, writable, writes, Readable, readable, reads, small}
@@ -55,7 +55,7 @@ module _ (h : Header) (xs : List ℕ) (room : ℕ) (number : h .number < 2 ^ 32)
   pub reads-back : ReadsBack h xs
   unfolding messageOf
   reads-back = record {
-    length = length-message;
+    whole = length-message;
     bytes = below-append 256 (header h) (bytesOf xs) (header-bytes h) (bytesOf-bytes xs);
     accepted =
         reads (messageOf h xs)
@@ -69,8 +69,8 @@ module _ (h : Header) (xs : List ℕ) (room : ℕ) (number : h .number < 2 ^ 32)
           whole = length-message ∙ ap (λ (k : Header). 16 + 4 * elementCount k) (sym header-back);
           below = ap₂ (λ (k : Header) (ys : List ℕ). elementTest (k .modulus) ys) header-back elements-back ∙ w .below;
         });
-    header = header-back;
-    elements = elements-back;
+    same-header = header-back;
+    same-elements = elements-back;
   }
 
 module _ (message : List ℕ) (bytes : AllBelow 256 message) (accepted : first (messageTests message) ≡ 0) where
@@ -104,53 +104,57 @@ module _ (h : Header) (xs out store : List ℕ) (number : h .number < 2 ^ 32) (a
   back = reads-back h xs (length out) number accepted
 
   same-count : elementCount (headerOf (messageOf h xs)) ≡ length xs
-  same-count = ap elementCount (back .header) ∙ sym (writable h xs (length out) accepted .count)
+  same-count = ap elementCount (back .same-header) ∙ sym (writable h xs (length out) accepted .count)
 
-  write-then-read : (readAs (written h xs out) (length store) ≡ Done h) × (readInto (written h xs out) store ≡ xs ++ drop (length xs) store)
+  write-then-read : (told (readAs (written h xs out) (length store)) ≡ done (fields h)) × (readInto (written h xs out) store ≡ xs ++ drop (length xs) store)
   unfolding examined
   write-then-read =
       let is = written-done h xs out accepted in (
-        ap (λ (bytes : List ℕ). readAs bytes (length store)) is
+        ap told
+            (ap (λ (bytes : List ℕ). readAs bytes (length store)) is
             ∙ read-long (messageOf h xs) (length store) room
-            ∙ sym (done-by _ _ (sym (back .header)) (back .accepted)),
+            ∙ sym (done-by _ _ (sym (back .same-header)) (back .accepted))),
         ap (λ (bytes : List ℕ). readInto bytes store) is
             ∙ read-done (messageOf h xs) store room (back .accepted)
-            ∙ ap₂ (λ (ys : List ℕ) (n : ℕ). ys ++ drop n store) (back .elements) same-count,
+            ∙ ap₂ (λ (ys : List ℕ) (n : ℕ). ys ++ drop n store) (back .same-elements) same-count,
       )
 
-module _ (message out store : List ℕ) {h : Header} (bytes : AllBelow 256 message) (done : readAs message (length store) ≡ Done h)
+module _ (message out store : List ℕ) (h : Header) (bytes : AllBelow 256 message) (read : told (readAs message (length store)) ≡ done (fields h))
     (whole : length out ≡ length message) where
+  answered : readAs message (length store) ≡ Done h
+  answered = told-done (readAs message (length store)) h read
+
   -- the output of reading was long enough
   room : 4096 ≤ length store
   room = ⊎-elim (λ (l : 4096 ≤ length store). l) (λ (l : length store < 4096). absurd (never (read-short message (length store) l)))
       (le-or-lt 4096 (length store))
     where
       never : readAs message (length store) ≡ Refused 13 → ⊥
-      never e = let z : _≡_ {A = ℕ} 1 0 = cc in suc-ne-zero 0 z
+      never e = let z : _≡_ {A = ℕ} 1 0 = cc answered in suc-ne-zero 0 z
 
-  told : (first (messageTests message) ≡ 0) × (h ≡ headerOf message)
+  accepted : (first (messageTests message) ≡ 0) × (h ≡ headerOf message)
   unfolding examined
-  told = done-told _ _ (sym (read-long message (length store) room) ∙ done)
+  accepted = done-told _ _ (sym (read-long message (length store) room) ∙ answered)
 
   same-elements : take (elementCount h) (readInto message store) ≡ elements message
   unfolding elements
   same-elements =
-      ap₂ take (ap elementCount (told .1)) (read-done message store room (told .0))
+      ap₂ take (ap elementCount (accepted .1)) (read-done message store room (accepted .0))
       ∙ take-at (elements message) _ (elementCount (headerOf message)) (length-elements _ _)
 
   again : first (writeTests h (take (elementCount h) (readInto message store)) (length out)) ≡ 0
   again =
-      ap₂ (λ (k : Header) (n : ℕ). first (writeTests k (take (elementCount h) (readInto message store)) n)) (told .1) whole
+      ap₂ (λ (k : Header) (n : ℕ). first (writeTests k (take (elementCount h) (readInto message store)) n)) (accepted .1) whole
       ∙ ap (λ (xs : List ℕ). first (writeTests (headerOf message) xs (length message))) same-elements
-      ∙ is-written message bytes (told .0) .accepted
+      ∙ is-written message bytes (accepted .0) .accepted
 
   read-then-write : (first (writeTests h (take (elementCount h) (readInto message store)) (length out)) ≡ 0)
       × (written h (take (elementCount h) (readInto message store)) out ≡ message)
   read-then-write = (
     again,
     written-done h (take (elementCount h) (readInto message store)) out again
-        ∙ ap₂ messageOf (told .1) same-elements
-        ∙ sym (is-written message bytes (told .0) .same),
+        ∙ ap₂ messageOf (accepted .1) same-elements
+        ∙ sym (is-written message bytes (accepted .0) .same),
   )
 
 pub round-trips : RoundTrips
@@ -158,5 +162,5 @@ round-trips = record {
   written-reads = reads-back;
   read-written = is-written;
   write-then-read = write-then-read;
-  read-then-write = λ message out store h. read-then-write message out store;
+  read-then-write = read-then-write;
 }

@@ -9,7 +9,6 @@
 --   written              == what writing leaves in the output
 --   examined             == what looking a message over answers
 --   readAs, readInto     == what reading answers, and what it leaves in the output: past rows times columns it is untouched
---   numberOf             == the number that an answer of reading stands for: 0 is done
 use mathlib.Core.Bool.{Bool, not, _||_}
 use mathlib.Core.List.{List, [], _∷_, _++_}
 use Prim.Native.Nat.{ℕ, _+_, _*_}
@@ -73,7 +72,3 @@ readAs message room = answer (first (readTests message room)) (Done (headerOf me
 unfoldable pub readInto : List ℕ → List ℕ → List ℕ
 readInto message out =
     answer (first (readTests message (length out))) (elements message ++ drop (elementCount (headerOf message)) out) (λ n. out)
-
-abbrev pub numberOf : Reading → ℕ
-numberOf (Done h) = 0
-numberOf (Refused n) = n

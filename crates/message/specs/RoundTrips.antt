@@ -10,18 +10,17 @@ use mathlib.Core.List.{List, _++_}
 use Prim.Native.Nat.{ℕ, _+_, _*_, _^_, _<_, _≤_}
 use lib.ListN.{length, take, drop}
 use Rattle.algebra.specs.Lists.{AllBelow}
-use Rattle.refusal.specs.Chain.{first}
+use Rattle.refusal.specs.Chain.{first, done}
 use Rattle.header.specs.declared.Header.{Header}
-use Rattle.header.specs.declared.Reading.the-variants.{Done}
-use Rattle.header.specs.Header.{headerOf, elementCount}
+use Rattle.header.specs.Header.{headerOf, elementCount, fields, told}
 use Rattle.message.specs.Format.{messageOf, elements, writeTests, messageTests, written, readAs, readInto}
 
 pub record ReadsBack (h : Header) (xs : List ℕ) : Type 0 where
-  pub length : length (messageOf h xs) ≡ 16 + 4 * elementCount h
+  pub whole : length (messageOf h xs) ≡ 16 + 4 * elementCount h
   pub bytes : AllBelow 256 (messageOf h xs)
   pub accepted : first (messageTests (messageOf h xs)) ≡ 0
-  pub header : headerOf (messageOf h xs) ≡ h
-  pub elements : elements (messageOf h xs) ≡ xs
+  pub same-header : headerOf (messageOf h xs) ≡ h
+  pub same-elements : elements (messageOf h xs) ≡ xs
 
 pub record IsWritten (message : List ℕ) : Type 0 where
   pub accepted : first (writeTests (headerOf message) (elements message) (length message)) ≡ 0
@@ -33,8 +32,9 @@ pub record RoundTrips : Type 0 where
   pub read-written : (message : List ℕ) → AllBelow 256 message → first (messageTests message) ≡ 0 → IsWritten message
   pub write-then-read : (h : Header) (xs out store : List ℕ) → h .number < 2 ^ 32 → first (writeTests h xs (length out)) ≡ 0
       → 4096 ≤ length store
-      → (readAs (written h xs out) (length store) ≡ Done h) × (readInto (written h xs out) store ≡ xs ++ drop (length xs) store)
-  pub read-then-write : (message out store : List ℕ) (h : Header) → AllBelow 256 message → readAs message (length store) ≡ Done h
+      → (told (readAs (written h xs out) (length store)) ≡ done (fields h)) × (readInto (written h xs out) store ≡ xs ++ drop (length xs) store)
+  pub read-then-write : (message out store : List ℕ) (h : Header) → AllBelow 256 message
+      → told (readAs message (length store)) ≡ done (fields h)
       → length out ≡ length message
       → (first (writeTests h (take (elementCount h) (readInto message store)) (length out)) ≡ 0)
       × (written h (take (elementCount h) (readInto message store)) out ≡ message)

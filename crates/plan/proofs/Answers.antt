@@ -7,13 +7,13 @@
 --   refused          the answer with a number
 --   layout-is, needed-is  the layout and K, from the parameters
 --   accepted         the answer without one
---   plan-number      the number of an answer is that of the first test that holds
+--   plan-told        what planning tells on paper: the first number that fits, or the job's values
 use mathlib.Core.Path.{_≡_, refl, sym, ap, ap₂, _∙_}
 use mathlib.Core.Bool.{true, false}
 use mathlib.Core.List.{List, _++_}
 use Prim.Native.Nat.{ℕ, zero, suc, _/_}
-use Rattle.refusal.specs.Chain.{first, answer}
-use Rattle.refusal.proofs.Chains.{first-hit, first-miss, first-append, first-append-hit, answer-done, answer-refused, numbered}
+use Rattle.refusal.specs.Chain.{first, answer, done, refused as Chain·refused}
+use Rattle.refusal.proofs.Chains.{first-hit, first-miss, first-append, first-append-hit, answer-done, answer-refused, answer-map, numbered}
 use Rattle.field.specs.declared.Modulus.{Modulus}
 use Rattle.field.specs.declared.Named.the-variants.{Is}
 use Rattle.field.specs.Modulus.{noModulus, named}
@@ -22,7 +22,7 @@ use Rattle.layout.specs.declared.Layout.{Layout}
 use Rattle.layout.specs.Exponents.{exponents, choice}
 use Rattle.plan.specs.declared.Job.{Job}
 use Rattle.plan.specs.declared.Planned.the-variants.{Accepted, Refused}
-use Rattle.plan.specs.Planning.{parameters, prime, known, modulusOf, blockRows, blockInner, blockColumns, layoutOf, neededOf, planOf, rangeTests, fitTests, pointTests, planTests, planned, numberOf}
+use Rattle.plan.specs.Planning.{parameters, prime, known, modulusOf, blockRows, blockInner, blockColumns, layoutOf, neededOf, planOf, rangeTests, fitTests, pointTests, planTests, planned, told, planValues}
 
 module _ (job : Job) (points : List ℕ) where
   pub plan-modulus : noModulus (job .modulus) ≡ true → first (planTests job points) ≡ 1
@@ -71,10 +71,6 @@ accepted job points m layout g needed is l same k e =
     ap Accepted (λ i. record { modulus = ap known (sym is) i; layout = l i; parameters = same i; rows = blockRows job; inner = blockInner job; columns = blockColumns job; needed = k i })
     ∙ sym (answer-done (Accepted (planOf job)) Refused (first (planTests job points)) e)
 
-pub plan-number : (job : Job) (points : List ℕ) → numberOf (planned job points) ≡ first (planTests job points)
-unfolding planned answer
-plan-number job points = go (first (planTests job points))
-  where
-    go : (n : ℕ) → numberOf (answer n (Accepted (planOf job)) Refused) ≡ n
-    go zero = refl
-    go (suc n) = refl
+pub plan-told : (job : Job) (points : List ℕ) → told (planned job points) ≡ answer (first (planTests job points)) (done (planValues job)) Chain·refused
+unfolding planned planOf planValues
+plan-told job points = answer-map told (Accepted (planOf job)) Refused (first (planTests job points))

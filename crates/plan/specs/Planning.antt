@@ -13,13 +13,14 @@
 --   planTests            == the tests of a plan, 1 to 11
 --   planOf               == the plan of an accepted job
 --   planned              == what planning answers
---   numberOf             == the number that an answer of planning stands for: 0 is done
+--   told                 == what an answer of planning says on paper: its number, and the values of an accepted job
+--   planValues           == these values: the number of its layout, K, and rows, inner and columns of its blocks
 use mathlib.Core.Bool.{Bool, false, not, _||_}
 use mathlib.Core.List.{List, [], _∷_, _++_}
 use Prim.Native.Nat.{ℕ, zero, suc, _/_, _%_}
 use lib.Dec.{leb, ltb, eqb}
 use lib.ListN.{length, getD, take}
-use Rattle.refusal.specs.Chain.{Row, first, answer, outside}
+use Rattle.refusal.specs.Chain.{Row, first, answer, Told, done, refused, outside}
 use Rattle.refusal.specs.Limits.{anyOutside, sizesOutside, overBlock}
 use Rattle.field.specs.declared.Modulus.{Modulus}
 use Rattle.field.specs.declared.Modulus.the-variants.{Q13}
@@ -28,7 +29,7 @@ use Rattle.field.specs.declared.Named.the-variants.{Is, Unknown}
 use Rattle.field.specs.Modulus.{modulus, named, noModulus}
 use Rattle.layout.specs.declared.Parameters.{Parameters}
 use Rattle.layout.specs.declared.Layout.{Layout}
-use Rattle.layout.specs.Exponents.{exponents, choice}
+use Rattle.layout.specs.Exponents.{exponents, number, choice}
 use Rattle.plan.specs.declared.Job.{Job}
 use Rattle.plan.specs.declared.Plan.{Plan}
 use Rattle.plan.specs.declared.Planned.{Planned}
@@ -134,6 +135,9 @@ planOf job = record {
 unfoldable pub planned : Job → List ℕ → Planned
 planned job points = answer (first (planTests job points)) (Accepted (planOf job)) Refused
 
-abbrev pub numberOf : Planned → ℕ
-numberOf (Accepted plan) = 0
-numberOf (Refused n) = n
+unfoldable pub planValues : Job → List ℕ
+planValues job = number (layoutOf job) ∷ neededOf job ∷ blockRows job ∷ blockInner job ∷ blockColumns job ∷ []
+
+abbrev pub told : Planned → Told ℕ
+told (Accepted plan) = done (number (plan .layout) ∷ plan .needed ∷ plan .rows ∷ plan .inner ∷ plan .columns ∷ [])
+told (Refused n) = refused n

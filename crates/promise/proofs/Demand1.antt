@@ -1,6 +1,7 @@
 -- Demand 1 (00): each call is judged by its tests, in order.
 --
 --   judged     the number of a list of tests
+--   tells      an answer by that number, on paper
 --   demand-1   the demand holds
 use mathlib.Core.Path.{_≡_, refl, sym, ap, _∙_, subst}
 use mathlib.Core.Bool.{true, false, not, true≢false}
@@ -10,24 +11,25 @@ use native.Mathlib.Nat.{not-suc-le-zero, le-of-suc-le-suc, zero-lt-suc, suc-ne-z
 use lib.Dec.{T, eqb}
 use lib.ListN.{length}
 use Rattle.algebra.proofs.Tests.{and-right}
-use Rattle.refusal.specs.Chain.{Row, first, answer}
-use Rattle.refusal.proofs.Chains.{numbered, numbered-append, answer-done, answer-refused}
+use Rattle.refusal.specs.Chain.{Row, first, answer, Told, done, refused}
+use Rattle.refusal.proofs.Chains.{numbered, numbered-append, answer-done, answer-refused, told-number}
 use Rattle.plan.specs.declared.Job.{Job}
 use Rattle.plan.specs.Planning.{planTests}
-use Rattle.plan.proofs.Answers.{plan-number}
+use Rattle.plan.proofs.Answers.{plan-told}
 use Rattle.plan.proofs.Then.{plan-numbered}
 use Rattle.share.specs.Sharing.{ownTests, shareTests, shareAfter}
 use Rattle.product.specs.Product.{productTests, productAfter}
+use Rattle.host.specs.Host.{hostTests, hostAfter}
 use Rattle.header.specs.Header.{headerTests, fieldTests}
 use Rattle.message.specs.Format.{writeTests, messageTests, readTests, written, readInto}
-use Rattle.message.proofs.Answers.{read-number}
+use Rattle.message.proofs.Answers.{read-told}
 use Rattle.arrival.specs.declared.Arrived.the-variants.{Taken}
 use Rattle.arrival.specs.declared.Arrived.the-variants.{Refused as Arrived·Refused}
 use Rattle.heard.specs.Heard.{withPlace}
 use Rattle.arrival.specs.Arriving.{place, stateTests, arrivalTests, arrived, storeAfter, heardAfter}
 use Rattle.arrival.specs.Arriving.{ownTests as Arriving·ownTests, numberOf as Arriving·numberOf}
 use Rattle.decode.specs.Decoding.{decodeTests, tableAfter}
-use Rattle.promise.specs.Demand1.{row, Judged, Leaves, Demand1}
+use Rattle.promise.specs.Demand1.{row, Judged, Leaves, Tells, Demand1}
 
 pub judged : (rows : List Row) → T (numbered rows) → Judged rows (first rows)
 unfolding first numbered
@@ -60,6 +62,16 @@ leaves n done was e = record {
   refused = λ ne. answer-refused done (λ k. was) n (λ z. ne (e ∙ z));
 }
 
+pub tells : {A : Type 0} (rows : List Row) (values : List A) {t : Told A} → T (numbered rows) → t ≡ answer (first rows) (done values) refused → Tells rows t values
+tells rows values {t} ok e =
+    let n = first rows in
+    let number : t .number ≡ n = ap (λ a. a .number) e ∙ told-number values n in
+    record {
+      judged = subst (Judged rows) (sym number) (judged rows ok);
+      carried-out = λ z. ap (λ a. a .values) (e ∙ answer-done (done values) refused n (sym number ∙ z));
+      refused = λ ne. ap (λ a. a .values) (e ∙ answer-refused (done values) refused n (λ z. ne (number ∙ z)));
+    }
+
 -- the number that an arrival answers with
 module _ (job : Job) (points : List ℕ) (heard : ℕ) (store message : List ℕ) where
   arrived-number : Arriving·numberOf (arrived job points heard store message) ≡ first (arrivalTests job points heard (length store) message)
@@ -83,15 +95,16 @@ after-plan : (job : Job) (points : List ℕ) (rows : List Row) → T (numbered r
 after-plan job points rows t = judged _ (numbered-append (planTests job points) rows (plan-numbered job points) t)
 
 pub demand-1 : Demand1
-unfolding shareTests ownTests shareAfter productTests productAfter fieldTests writeTests messageTests headerTests readTests written readInto stateTests Arriving·ownTests arrivalTests storeAfter decodeTests tableAfter numbered
+unfolding shareTests ownTests shareAfter productTests productAfter hostTests hostAfter fieldTests writeTests messageTests headerTests readTests written readInto stateTests Arriving·ownTests arrivalTests storeAfter decodeTests tableAfter numbered
 demand-1 = record {
-  plan = λ job points. subst (Judged (planTests job points)) (sym (plan-number job points)) (judged (planTests job points) (plan-numbered job points));
+  plan = λ job points. tells (planTests job points) _ (plan-numbered job points) (plan-told job points);
   share = λ m job points host xs ms out. (after-plan job points _ tt, leaves _ _ _ refl);
   product = λ n rows inner columns a b out. (judged _ tt, leaves _ _ _ refl);
+  host = λ n rows inner columns a b out. (judged _ tt, leaves _ _ _ refl);
   write = λ h xs out. (judged _ tt, leaves _ _ _ refl);
   read = λ message out.
-      let is = read-number message (length out) in
-      (subst (Judged (readTests message (length out))) (sym is) (judged _ tt), leaves _ _ _ is);
+      let is = read-told message (length out) in
+      (tells _ _ tt is, leaves _ _ _ (ap (λ a. a .number) is ∙ told-number _ _));
   arrival = λ job points heard store message.
       let is = arrived-number job points heard store message in (
         subst (Judged (arrivalTests job points heard (length store) message)) (sym is) (after-plan job points _ tt),

@@ -55,11 +55,11 @@ module _ (x : Task) (ok : Accepted x) (ma mb : List ℕ) (i : ℕ) (low : i < x 
   read = reads-back (answerHeader x (suc i)) (answer x ok i low ma mb) _ (ok .number) (answer-written x ok i low ma mb _ refl)
 
   header-is : headerOf message ≡ answerHeader x (suc i)
-  header-is = ap headerOf is-message ∙ read .header
+  header-is = ap headerOf is-message ∙ read .same-header
 
   pub elements-true : elements (trueProduct x (suc i) ma mb) ≡ answer x ok i low ma mb
   unfolding message
-  elements-true = ap elements is-message ∙ read .elements
+  elements-true = ap elements is-message ∙ read .same-elements
 
   core-clear : first (core x message) ≡ 0
   unfolding core others foreign answerHeader headerFor

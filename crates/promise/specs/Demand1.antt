@@ -5,24 +5,28 @@
 --
 --   Judged rows n             == n is 0 exactly where no test of the rows holds; otherwise it is the number of the first that does
 --   Leaves n after done was   == where n is 0 a buffer holds `done` after the call, and otherwise what it held before
+--   Tells rows t values       == what an answer says on paper: its number is judged by the rows, and where it is 0 the values are
+--                                these; a refusal has none
 --   Demand1                   == every call is judged by its tests, in the sheet's order, and leaves its buffers so
 use mathlib.Core.Path.{_≡_}
 use mathlib.Core.Bool.{true, false}
 use mathlib.Core.Logic.{_↔_}
-use mathlib.Core.List.{List, _++_}
+use mathlib.Core.List.{List, [], _++_}
 use Prim.Native.Nat.{ℕ, _<_}
 use lib.ListN.{length, getD, drop}
-use Rattle.refusal.specs.Chain.{Row, first}
+use Rattle.refusal.specs.Chain.{Row, first, Told}
 use Rattle.field.specs.Modulus.{modulus}
 use Rattle.plan.specs.declared.Job.{Job}
-use Rattle.plan.specs.Planning.{planTests, planned}
-use Rattle.plan.specs.Planning.{numberOf as Planning·numberOf}
+use Rattle.plan.specs.Planning.{planTests, planned, planValues}
+use Rattle.plan.specs.Planning.{told as Planning·told}
 use Rattle.weights.specs.declared.Matrix.{Matrix}
 use Rattle.share.specs.Sharing.{hostShare, shareTests, shareAfter}
 use Rattle.product.specs.Product.{productOf, productTests, productAfter}
 use Rattle.header.specs.declared.Header.{Header}
-use Rattle.header.specs.Header.{headerOf, elementCount}
-use Rattle.message.specs.Format.{messageOf, elements, writeTests, readTests, written, readAs, readInto, numberOf}
+use Rattle.host.specs.Host.{hostTests, hostProduct, hostAfter}
+use Rattle.header.specs.Header.{headerOf, elementCount, fields}
+use Rattle.header.specs.Header.{told as Header·told}
+use Rattle.message.specs.Format.{messageOf, elements, writeTests, readTests, written, readAs, readInto}
 use Rattle.heard.specs.Heard.{withPlace}
 use Rattle.arrival.specs.Arriving.{answerLength, withBlock, place, arrivalTests, arrived, storeAfter, heardAfter}
 use Rattle.arrival.specs.Arriving.{numberOf as Arriving·numberOf}
@@ -41,21 +45,31 @@ pub record Leaves (n : ℕ) (after done was : List ℕ) : Type 0 where
   pub carried-out : n ≡ 0 → after ≡ done
   pub refused : (n ≡ 0 → ⊥) → after ≡ was
 
+pub record Tells {A : Type 0} (rows : List Row) (t : Told A) (values : List A) : Type 0 where
+  pub judged : Judged rows (t .number)
+  pub carried-out : t .number ≡ 0 → t .values ≡ values
+  pub refused : (t .number ≡ 0 → ⊥) → t .values ≡ []
+
 pub record Demand1 : Type 0 where
-  pub plan : (job : Job) (points : List ℕ) → Judged (planTests job points) (Planning·numberOf (planned job points))
+  -- layout, K and the sizes of blocks are told
+  pub plan : (job : Job) (points : List ℕ) → Tells (planTests job points) (Planning·told (planned job points)) (planValues job)
   pub share : (m : Matrix) (job : Job) (points : List ℕ) (host : ℕ) (xs ms out : List ℕ)
       → Judged (shareTests m job points host xs ms (length out)) (first (shareTests m job points host xs ms (length out)))
       × Leaves (first (shareTests m job points host xs ms (length out))) (shareAfter m job points host xs ms out) (hostShare m job points host xs ms) out
   pub product : (n rows inner columns : ℕ) (a b out : List ℕ)
       → Judged (productTests n rows inner columns a b (length out)) (first (productTests n rows inner columns a b (length out)))
       × Leaves (first (productTests n rows inner columns a b (length out))) (productAfter n rows inner columns a b out) (productOf (modulus n) rows inner columns a b) out
+  -- the product that a partner links into a C program, on bytes
+  pub host : (n rows inner columns : ℕ) (a b out : List ℕ)
+      → Judged (hostTests n rows inner columns a b (length out)) (first (hostTests n rows inner columns a b (length out)))
+      × Leaves (first (hostTests n rows inner columns a b (length out))) (hostAfter n rows inner columns a b out) (hostProduct n rows inner columns a b) out
   pub write : (h : Header) (xs out : List ℕ)
       → Judged (writeTests h xs (length out)) (first (writeTests h xs (length out)))
       × Leaves (first (writeTests h xs (length out))) (written h xs out) (messageOf h xs) out
-  -- past rows times columns the output is untouched
+  -- the fields are told; past rows times columns the output is untouched
   pub read : (message out : List ℕ)
-      → Judged (readTests message (length out)) (numberOf (readAs message (length out)))
-      × Leaves (numberOf (readAs message (length out))) (readInto message out) (elements message ++ drop (elementCount (headerOf message)) out) out
+      → Tells (readTests message (length out)) (Header·told (readAs message (length out))) (fields (headerOf message))
+      × Leaves (Header·told (readAs message (length out)) .number) (readInto message out) (elements message ++ drop (elementCount (headerOf message)) out) out
   -- an arrival writes its own block and sets its own bit
   pub arrival : (job : Job) (points : List ℕ) (heard : ℕ) (store message : List ℕ)
       → Judged (arrivalTests job points heard (length store) message) (Arriving·numberOf (arrived job points heard store message))

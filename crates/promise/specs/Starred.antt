@@ -2,7 +2,8 @@
 --
 --   Line           == what the definitions give, and what the sheet says
 --   jobWith ..     == a job over q 257 of the smallest sizes that the cuts divide
---   plan job       == a plan's refusal number, and of an accepted one the layout and K, with the points 1..N
+--   plan job       == what planning tells on paper, with the points 1..N: its number, and of an accepted job layout, K, and the
+--                     sizes of blocks, which are all 1 here
 --   thresholds     == K by layout 1 and by layout 2
 --   share m x y i  == what sharing leaves at host i of that job, for a matrix of the one element x and a mask of the one
 --                     element y; 99 stands in the output before, and would stay there if the call were refused
@@ -18,11 +19,9 @@ use lib.IntN.{pos, negsuc}
 use lib.ListN.{length, getD}
 use Rattle.algebra.specs.Lists.{tab}
 use Rattle.layout.specs.declared.Layout.the-variants.{First, Second}
-use Rattle.layout.specs.Exponents.{exponents, number}
+use Rattle.layout.specs.Exponents.{exponents}
 use Rattle.plan.specs.declared.Job.{Job}
-use Rattle.plan.specs.declared.Planned.{Planned}
-use Rattle.plan.specs.declared.Planned.the-variants.{Accepted, Refused}
-use Rattle.plan.specs.Planning.{parameters, planned}
+use Rattle.plan.specs.Planning.{parameters, planned, told}
 use Rattle.product.specs.Product.{productAfter}
 use Rattle.weights.specs.declared.Matrix.{Matrix}
 use Rattle.weights.specs.declared.Matrix.the-variants.{A, B}
@@ -34,12 +33,8 @@ use Rattle.signed.specs.Signed.{signedAnswer}
 abbrev pub Line : Type 0
 Line = List ℕ × List ℕ
 
-unfoldable pub answered : Planned → List ℕ
-answered (Accepted plan) = 0 ∷ number (plan .layout) ∷ plan .needed ∷ []
-answered (Refused n) = n ∷ []
-
 unfoldable pub plan : Job → List ℕ
-plan job = answered (planned job (tab suc (job .hosts)))
+plan job = let t = told (planned job (tab suc (job .hosts))) in t .number ∷ t .values
 
 unfoldable pub thresholds : Job → List ℕ
 thresholds job = exponents First (parameters job) .needed ∷ exponents Second (parameters job) .needed ∷ []
@@ -70,7 +65,7 @@ jobWith p m n xa xb hosts =
 unfoldable pub starred : List Line
 starred =
     -- q 13, all sizes and both X 1, points 1, 2, 3: K = 3
-    (plan smallest, 0 ∷ 1 ∷ 3 ∷ [])
+    (plan smallest, 0 ∷ 1 ∷ 3 ∷ 1 ∷ 1 ∷ 1 ∷ [])
     -- A 5 with mask 7 gives shares 12, 6, 0
     ∷ (share A 5 7 1 ++ (share A 5 7 2 ++ share A 5 7 3), 12 ∷ 6 ∷ 0 ∷ [])
     -- B 4 with mask 9 gives 0, 9, 5
@@ -83,18 +78,18 @@ starred =
     -- with A = 6, mask 0 gives host 2 the same share 6
     ∷ (share A 6 0 2, 6 ∷ [])
     -- p, m, n, X_A = X_B: 2, 2, 3, 2 gives 23, layout 1
-    ∷ (plan (jobWith 2 2 3 2 2 23), 0 ∷ 1 ∷ 23 ∷ [])
+    ∷ (plan (jobWith 2 2 3 2 2 23), 0 ∷ 1 ∷ 23 ∷ 1 ∷ 1 ∷ 1 ∷ [])
     -- 2, 2, 3, 5 gives 32
-    ∷ (plan (jobWith 2 2 3 5 5 32), 0 ∷ 1 ∷ 32 ∷ [])
+    ∷ (plan (jobWith 2 2 3 5 5 32), 0 ∷ 1 ∷ 32 ∷ 1 ∷ 1 ∷ 1 ∷ [])
     -- 3, 4, 4, 2 gives 69, so refused with 8
     ∷ (thresholds (jobWith 3 4 4 2 2 64), 69 ∷ 69 ∷ [])
     ∷ (plan (jobWith 3 4 4 2 2 64), 8 ∷ [])
     -- 2, 3, 2, 7 gives 43 and 38: layout 2
     ∷ (thresholds (jobWith 2 3 2 7 7 64), 43 ∷ 38 ∷ [])
-    ∷ (plan (jobWith 2 3 2 7 7 64), 0 ∷ 2 ∷ 38 ∷ [])
+    ∷ (plan (jobWith 2 3 2 7 7 64), 0 ∷ 2 ∷ 38 ∷ 1 ∷ 1 ∷ 1 ∷ [])
     -- p 1, m 2, n 2, X_A 3, X_B 1 gives 10 and 12: layout 1
     ∷ (thresholds (jobWith 1 2 2 3 1 12), 10 ∷ 12 ∷ [])
-    ∷ (plan (jobWith 1 2 2 3 1 12), 0 ∷ 1 ∷ 10 ∷ [])
+    ∷ (plan (jobWith 1 2 2 3 1 12), 0 ∷ 1 ∷ 10 ∷ 1 ∷ 1 ∷ 1 ∷ [])
     ∷ []
 
 abbrev pub Right : List Line → Type 0

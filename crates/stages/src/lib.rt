@@ -2,10 +2,11 @@
 ghost use mathlib.Core.Path.{_≡_};
 ghost use lib.ListN.{length};
 ghost use Rattle.refusal.specs.Chain.{first};
-ghost use Rattle.plan.specs.Planning.{planned, numberOf as Plan·numberOf};
+ghost use Rattle.plan.specs.Planning.{planned, told as Plan·told};
 ghost use Rattle.share.specs.Sharing.{shareTests, shareAfter};
 ghost use Rattle.product.specs.Product.{productTests, productAfter};
-ghost use Rattle.message.specs.Format.{writeTests, written, readAs, readInto, numberOf as Message·numberOf};
+ghost use Rattle.message.specs.Format.{writeTests, written, readAs, readInto};
+ghost use Rattle.header.specs.Header.{told as Header·told};
 ghost use Rattle.arrival.specs.Arriving.{arrived, storeAfter, heardAfter, numberOf as Arrival·numberOf};
 ghost use Rattle.decode.specs.Decoding.{decodeTests, tableAfter};
 ghost use Rattle.stages.specs.Stages.{jobOf, headerOf, matrixOf, neededAfter};
@@ -86,7 +87,7 @@ fn matrix_of(second: bool) -> Matrix
 // Plans a job: needed is then K, or the job is refused by number and needed stays as it was.
 #[no_mangle]
 pub extern "C" fn stages_plan(numbers: Numbers, points: &[u32], needed: &mut u32) -> u32
-    ensures number { λ r. ⌜ r ≡ Plan·numberOf (planned (jobOf numbers) (now (points .entry))) ⌝ }
+    ensures number { λ r. ⌜ r ≡ Plan·told (planned (jobOf numbers) (now (points .entry))) .number ⌝ }
     ensures needed { λ _. ⌜ now (needed .exit) ≡ neededAfter (now (needed .entry)) (planned (jobOf numbers) (now (points .entry))) ⌝ }
 {
     let planned = plan::plan_job(job_of(numbers), points);
@@ -153,7 +154,7 @@ pub extern "C" fn stages_write(fields: Fields, xs: &[u32], out: &mut [u8]) -> u3
 // Reads a message's elements.
 #[no_mangle]
 pub extern "C" fn stages_read(message: &[u8], out: &mut [u32]) -> u32
-    ensures number { λ r. ⌜ r ≡ Message·numberOf (readAs (now (message .entry)) (length (now (out .entry)))) ⌝ }
+    ensures number { λ r. ⌜ r ≡ Header·told (readAs (now (message .entry)) (length (now (out .entry)))) .number ⌝ }
     ensures elements { λ _. ⌜ now (out .exit) ≡ readInto (now (message .entry)) (now (out .entry)) ⌝ }
 {
     let reading = message::read_message(message, out);

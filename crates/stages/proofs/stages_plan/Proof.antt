@@ -2,7 +2,8 @@
 use mathlib.Core.Path.{_≡_, sym, ap, _∙_}
 use borrow.Author.Needs.{needs}
 use Rattle.plan.specs.declared.Job.{Job}
-use Rattle.plan.specs.Planning.{planned, numberOf}
+use Rattle.plan.specs.declared.Planned.{Planned}
+use Rattle.plan.specs.Planning.{planned, told}
 use Rattle.stages.specs.Stages.{jobOf, neededAfter}
 use Rattle.stages.proofs.stages_plan.Statement.{statement}
 use Rattle.stages.proofs.stages_plan.Tie as tie
@@ -31,13 +32,13 @@ returns : tie.Need-returns
 returns c =
     let p = c .before .before .before in
     let refused = planned-is p ∙ c .before .planned .given .1 in
-    (sym (ap numberOf refused), sym (ap (neededAfter (start p .args .needed .now)) refused))
+    (sym (ap (λ (p : Planned). told p .number) refused), sym (ap (neededAfter (start p .args .needed .now)) refused))
 
 returns-2 : tie.Need-returns-2
 returns-2 c =
     let p = c .before .before .before in
     let accepted = planned-is p ∙ c .before .planned2 .given .1 in
-    (sym (ap numberOf accepted), sym (ap (neededAfter (start p .args .needed .now)) accepted))
+    (sym (ap (λ (p : Planned). told p .number) accepted), sym (ap (neededAfter (start p .args .needed .now)) accepted))
 
 pub stages-plan-spec : {M : Type 1} → statement M
 stages-plan-spec =

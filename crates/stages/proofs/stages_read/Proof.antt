@@ -1,7 +1,8 @@
 -- `stages::stages_read` meets its contract.
 use mathlib.Core.Path.{sym, ap, _∙_}
 use borrow.Author.Needs.{needs}
-use Rattle.message.specs.Format.{numberOf}
+use Rattle.header.specs.declared.Reading.{Reading}
+use Rattle.header.specs.Header.{told}
 use Rattle.stages.proofs.stages_read.Statement.{statement}
 use Rattle.stages.proofs.stages_read.Tie as tie
 
@@ -19,16 +20,16 @@ same-length c = search needs
 
 returns : tie.Need-returns
 returns c =
-    let told = c .before .before .before .before .before .read-message .ensures in
-    (sym (ap numberOf (sym (told .0) ∙ c .before .reading .given .1)), told .1)
+    let read = c .before .before .before .before .before .read-message .ensures in
+    (sym (ap (λ (r : Reading). told r .number) (sym (read .0) ∙ c .before .reading .given .1)), read .1)
 
 same-length-2 : tie.Need-same-length-2
 same-length-2 c = search needs
 
 returns-2 : tie.Need-returns-2
 returns-2 c =
-    let told = c .before .before .before .before .read-message .ensures in
-    (sym (ap numberOf (sym (told .0) ∙ c .enum-told .given .1)), told .1)
+    let read = c .before .before .before .before .read-message .ensures in
+    (sym (ap (λ (r : Reading). told r .number) (sym (read .0) ∙ c .enum-told .given .1)), read .1)
 
 pub stages-read-spec : {M : Type 1} → statement M
 stages-read-spec =
