@@ -1,3 +1,4 @@
 -- Laws of layouts.
 pub mod Nests
 pub mod Soundness
+pub mod Layouts

@@ -2,3 +2,4 @@
 pub mod Exponents
 pub mod Strides
 pub mod Sound
+pub mod Layouts

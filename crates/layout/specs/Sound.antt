@@ -1,5 +1,6 @@
 -- What privacy and exactness ask of a layout. Every theorem above is over a sound layout, never over a layout number.
 --
+--   Cut g          == each matrix is cut into at least one block each way
 --   Sound g e      == A's masks and B's follow one another; A(k,l) and B(l,j) meet on the place of C(k,j), and no other
 --                     pair of blocks or masks falls on a place; every sum of exponents is below K
 --   Threshold g e  == K is one more than the largest sum of an exponent of A's and one of B's (document 000, equations 16 to 22)
@@ -8,7 +9,6 @@ use Prim.Native.Nat.{ℕ, suc, _+_, _-_, _<_, _≤_}
 use Rattle.layout.specs.declared.Parameters.{Parameters}
 use Rattle.layout.specs.Exponents.{Exponents}
 
--- each cut is at least 1
 pub record Cut (g : Parameters) : Type 0 where
   pub m : 1 ≤ g .m
   pub p : 1 ≤ g .p
