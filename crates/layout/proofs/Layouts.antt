@@ -1,15 +1,17 @@
 -- What holds of both layouts, and which of them is used.
 --
 --   layouts    the statement of specs/Layouts.antt
-use mathlib.Core.Path.{_≡_, refl, sym, subst}
+use mathlib.Core.Path.{_≡_, refl, subst}
 use mathlib.Core.Logic.{⊎-elim}
 use Prim.Native.Nat.{ℕ, _<_, _≤_}
-use native.Mathlib.Nat.{le-refl, le-of-lt, le-of-eq}
+use native.Mathlib.Nat.{le-refl, le-of-lt}
+use native.Mathlib.Omega.{arith}
+use lib.Dec.{lit≤}
 use Rattle.algebra.proofs.Orders.{le-or-lt}
 use Rattle.layout.specs.declared.Parameters.{Parameters}
 use Rattle.layout.specs.declared.Layout.{Layout}
 use Rattle.layout.specs.declared.Layout.the-variants.{First, Second}
-use Rattle.layout.specs.Exponents.{exponents, choice}
+use Rattle.layout.specs.Exponents.{exponents, number}
 use Rattle.layout.specs.Layouts.{Layouts}
 use Rattle.layout.proofs.Nests.{first-chosen, second-chosen}
 use Rattle.layout.proofs.Soundness.{sound, threshold}
@@ -26,6 +28,14 @@ second-least : (g : Parameters) (l : Layout) → k g Second < k g First → k g 
 second-least g First h = le-of-lt h
 second-least g Second h = le-refl (k g Second)
 
+lowest-number : (l : Layout) → number First ≤ number l
+lowest-number First = lit≤ tt
+lowest-number Second = lit≤ tt
+
+second-tie : (g : Parameters) (l : Layout) → k g Second < k g First → k g l ≡ k g Second → number Second ≤ number l
+second-tie g First h e = omega arith
+second-tie g Second h e = lit≤ tt
+
 pub layouts : Layouts
 layouts = record {
   sound = sound;
@@ -34,5 +44,8 @@ layouts = record {
       ⊎-elim (λ h. subst (λ (c : Layout). k g c ≤ k g l) (first-chosen g refl refl h) (first-least g l h))
       (λ h. subst (λ (c : Layout). k g c ≤ k g l) (second-chosen g refl refl h) (second-least g l h))
       (le-or-lt (k g First) (k g Second));
-  tie = λ g e. sym (first-chosen g refl refl (le-of-eq e));
+  at-a-tie = λ g l.
+      ⊎-elim (λ h. subst (λ (c : Layout). k g l ≡ k g c → number c ≤ number l) (first-chosen g refl refl h) (λ e. lowest-number l))
+      (λ h. subst (λ (c : Layout). k g l ≡ k g c → number c ≤ number l) (second-chosen g refl refl h) (second-tie g l h))
+      (le-or-lt (k g First) (k g Second));
 }

@@ -8,10 +8,10 @@
 --   layout-is, needed-is  the layout and K, from the parameters
 --   accepted         the answer without one
 --   plan-told        what planning tells on paper: the first number that fits, or the job's values
-use mathlib.Core.Path.{_≡_, refl, sym, ap, ap₂, _∙_}
+use mathlib.Core.Path.{_≡_, sym, ap, ap₂, _∙_}
 use mathlib.Core.Bool.{true, false}
 use mathlib.Core.List.{List, _++_}
-use Prim.Native.Nat.{ℕ, zero, suc, _/_}
+use Prim.Native.Nat.{ℕ, _/_}
 use Rattle.refusal.specs.Chain.{first, answer, done, refused as Chain·refused}
 use Rattle.refusal.proofs.Chains.{first-hit, first-miss, first-append, first-append-hit, answer-done, answer-refused, answer-map, numbered}
 use Rattle.field.specs.declared.Modulus.{Modulus}

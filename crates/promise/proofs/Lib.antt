@@ -8,6 +8,7 @@ pub mod ExactSums
 pub mod ExactPlaces
 pub mod ExactAnswers
 pub mod Exact
+pub mod Demand2
 pub mod Fits
 pub mod Blocks
 pub mod Trace

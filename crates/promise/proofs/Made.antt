@@ -7,20 +7,22 @@
 --   share-done         sharing is carried out
 --   share-written      so is writing a share's message
 --   product-done, product-written  the same of an answer
---   made               the messages of demand 3 are what these calls give
-use mathlib.Core.Path.{_≡_, ap, ap₂, _∙_}
+--   host-done          so is the product on bytes, of the payloads of both messages
+--   made               K and the messages of demand 3 are what these calls give
+use mathlib.Core.Path.{_≡_, refl, sym, ap, ap₂, _∙_}
 use mathlib.Core.Bool.{false, not, _||_}
-use mathlib.Core.List.{List}
+use mathlib.Core.List.{List, _∷_}
 use Prim.Native.Nat.{ℕ, suc, _+_, _*_, _<_, _≤_}
 use native.Mathlib.Nat.{mod-lt}
 use native.Mathlib.Omega.{arith}
 use lib.ListN.{length}
+use lib.Seq.{drop-at}
 use borrow.Author.Tests.{le-ltb}
-use Rattle.algebra.specs.Lists.{AllBelow}
+use Rattle.algebra.specs.Lists.{AllBelow, allBelow}
 use Rattle.algebra.proofs.Tests.{alike}
 use Rattle.algebra.proofs.Lists.{below-test}
 use Rattle.algebra.proofs.Grids.{length-grid, below-grid}
-use Rattle.refusal.specs.Chain.{first, outside}
+use Rattle.refusal.specs.Chain.{Row, first, outside}
 use Rattle.field.specs.Modulus.{noModulus}
 use Rattle.refusal.specs.Limits.{anyOutside, sizesOutside, overBlock}
 use Rattle.refusal.proofs.Chains.{first-none, first-miss, answer-done, inside}
@@ -28,6 +30,7 @@ use Rattle.refusal.proofs.Limits.{Within}
 use Rattle.plan.specs.Planning.{prime, parameters, blockRows, blockInner, blockColumns, planOf}
 use Rattle.plan.proofs.Facts.{Fits, facts}
 use Rattle.plan.proofs.Sizes.{Sizes, sizes}
+use Rattle.plan.proofs.Answers.{plan-told}
 use Rattle.plan.proofs.Then.{then-own}
 use Rattle.weights.specs.declared.Matrix.{Matrix}
 use Rattle.weights.specs.declared.Matrix.the-variants.{A, B}
@@ -36,8 +39,12 @@ use Rattle.encoding.specs.Encoding.{blockLength, matrixLength, maskLength, leng
 use Rattle.share.specs.Sharing.{shareOf, hostShare, ownTests, shareTests, shareAfter}
 use Rattle.product.specs.Product.{productOf, lengthTest, productTests, productAfter}
 use Rattle.header.specs.declared.Header.{Header}
-use Rattle.header.specs.Header.{elementCount, kindTest, hostTest, sizeTest, blockTest, fieldTests}
-use Rattle.message.specs.Format.{elementTest, writeTests, written}
+use Rattle.big_endian.specs.Bytes.{bytesOf, elementsOf}
+use Rattle.big_endian.proofs.Bytes.{length-bytesOf, elements-of-bytes}
+use Rattle.host.specs.Host.{byteLengthTest, hostTests, hostProduct, hostAfter}
+use Rattle.header.proofs.Headers.{length-header}
+use Rattle.header.specs.Header.{header, elementCount, kindTest, hostTest, sizeTest, blockTest, fieldTests}
+use Rattle.message.specs.Format.{messageOf, payload, elementTest, writeTests, written}
 use Rattle.message.proofs.Fields.{writes}
 use Rattle.message.proofs.Answers.{written-done}
 use Rattle.promise.specs.Demand3.{Task, Accepted, Masks, Made, matrix, kindOf, headerFor, shareHeader, answerHeader, shareMessage, trueProduct}
@@ -156,6 +163,20 @@ module _ (x : Task) (ok : Accepted x) (i : ℕ) (low : i < x .numbers .hosts) wh
         below = ap not (below-test _ _ (share-below m ms));
       })
 
+  -- the numbers of the product are those of an accepted job
+  numbers-pass : (rows : List Row) → let job = x .numbers in
+      first ((noModulus (job .modulus), 1)
+      ∷ (sizesOutside (blockRows job) (blockInner job) (blockColumns job), 2)
+      ∷ (overBlock (blockRows job) (blockInner job) (blockColumns job), 6)
+      ∷ rows)
+      ≡ first rows
+  unfolding sizesOutside anyOutside overBlock
+  numbers-pass rows =
+      let z = size in
+      first-miss _ 1 _ (fits .known .is-number)
+      ∙ first-miss _ 2 _ (ap₂ _||_ (ap₂ _||_ (in-range (in-size (z .rows))) (in-range (in-size (z .inner)))) (in-range (in-size (z .columns))))
+      ∙ first-miss _ 6 _ (ap₂ _||_ (ap₂ _||_ (le-ltb 4096 _ (fits .block-a)) (le-ltb 4096 _ (fits .block-b))) (le-ltb 4096 _ (fits .block-c)))
+
   module _ (ma mb : List ℕ) where
     unfoldable pub answer : List ℕ
     answer = productOf (prime (x .numbers)) (blockRows (x .numbers)) (blockInner (x .numbers)) (blockColumns (x .numbers)) (share A ma) (share B mb)
@@ -170,12 +191,9 @@ module _ (x : Task) (ok : Accepted x) (i : ℕ) (low : i < x .numbers .hosts) wh
 
     product-done : (out : List ℕ) → length out ≡ blockRows (x .numbers) * blockColumns (x .numbers)
         → first (productTests (x .numbers .modulus) (blockRows (x .numbers)) (blockInner (x .numbers)) (blockColumns (x .numbers)) (share A ma) (share B mb) (length out)) ≡ 0
-    unfolding productTests sizesOutside anyOutside overBlock lengthTest share blockLength side planOf prime
+    unfolding productTests lengthTest share blockLength side planOf prime
     product-done out room =
-        let z = size in
-        first-miss _ 1 _ (fits .known .is-number)
-        ∙ first-miss _ 2 _ (ap₂ _||_ (ap₂ _||_ (in-range (in-size (z .rows))) (in-range (in-size (z .inner)))) (in-range (in-size (z .columns))))
-        ∙ first-miss _ 6 _ (ap₂ _||_ (ap₂ _||_ (le-ltb 4096 _ (fits .block-a)) (le-ltb 4096 _ (fits .block-b))) (le-ltb 4096 _ (fits .block-c)))
+        numbers-pass _
         ∙ first-miss _ 13 _ (ap₂ _||_ (ap₂ _||_ (alike _ _ (share-length A ma)) (alike _ _ (share-length B mb))) (alike (length out) _ room))
         ∙ first-miss _ 14 _ (ap₂ _||_ (ap not (below-test _ _ (share-below A ma))) (ap not (below-test _ _ (share-below B mb))))
         ∙ first-none
@@ -196,10 +214,45 @@ module _ (x : Task) (ok : Accepted x) (i : ℕ) (low : i < x .numbers .hosts) wh
           below = ap not (below-test _ _ answer-below);
         })
 
+    -- the bytes of the two shares
+    bytes : (m : Matrix) → List ℕ → List ℕ
+    bytes m ms = bytesOf (share m ms)
+
+    payload-is : (m : Matrix) (ms : List ℕ) → payload (shareMessage m x (suc i) ms) ≡ bytes m ms
+    unfolding payload shareMessage messageOf bytes share
+    payload-is m ms = drop-at (header (shareHeader m x (suc i))) _ 16 (length-header _)
+
+    elements-are : (m : Matrix) (ms : List ℕ) (n : ℕ) → n ≡ blockLength (side m (planOf (x .numbers))) → elementsOf n (bytes m ms) ≡ share m ms
+    unfolding bytes share
+    elements-are m ms n e =
+        ap (λ (k : ℕ). elementsOf k (bytes m ms)) (e ∙ sym (share-length m ms))
+        ∙ elements-of-bytes (share m ms) (λ k l. omega (arith, share-below m ms k l, fits .known .small))
+
+    host-done : (out : List ℕ) → length out ≡ 4 * elementCount (answerHeader x (suc i))
+        → first (hostTests (x .numbers .modulus) (blockRows (x .numbers)) (blockInner (x .numbers)) (blockColumns (x .numbers)) (bytes A ma) (bytes B mb) (length out)) ≡ 0
+    unfolding hostTests byteLengthTest bytes share blockLength side planOf prime answerHeader headerFor elementCount q
+    host-done out room =
+        let a = length-bytesOf (share A ma) ∙ ap (λ (n : ℕ). 4 * n) (share-length A ma) in
+        let b = length-bytesOf (share B mb) ∙ ap (λ (n : ℕ). 4 * n) (share-length B mb) in
+        numbers-pass _
+        ∙ first-miss _ 13 _ (ap₂ _||_ (ap₂ _||_ (alike _ _ a) (alike _ _ b)) (alike (length out) _ room))
+        ∙ first-miss _ 14 _
+        (ap₂ _||_ (ap not (ap (allBelow q) (elements-are A ma _ refl) ∙ below-test _ _ (share-below A ma)))
+        (ap not (ap (allBelow q) (elements-are B mb _ refl) ∙ below-test _ _ (share-below B mb))))
+        ∙ first-none
+
+    host-made : (out : List ℕ) → length out ≡ 4 * elementCount (answerHeader x (suc i))
+        → hostAfter (x .numbers .modulus) (blockRows (x .numbers)) (blockInner (x .numbers)) (blockColumns (x .numbers)) (bytes A ma) (bytes B mb) out ≡ bytesOf answer
+    unfolding hostAfter hostProduct answer blockLength side planOf prime q
+    host-made out room =
+        answer-done _ (λ r. out) _ (host-done out room)
+        ∙ ap bytesOf (ap₂ (productOf q (blockRows (x .numbers)) (blockInner (x .numbers)) (blockColumns (x .numbers))) (elements-are A ma _ refl) (elements-are B mb _ refl))
+
     pub made : Masks A x ma → Masks B x mb → Made x (suc i) ma mb
-    unfolding shareMessage trueProduct answer share matrix
+    unfolding shareMessage trueProduct answer share matrix payload messageOf
     made masks-a masks-b =
         record {
+          plan = plan-told (x .numbers) (x .points) ∙ answer-done _ _ _ (ok .planned);
           share = λ m ms out message masks room whole.
               let is = shared m ms out masks room in
               ap (λ (xs : List ℕ). written (shareHeader m x (suc i)) xs message) is
@@ -209,4 +262,8 @@ module _ (x : Task) (ok : Accepted x) (i : ℕ) (low : i < x .numbers .hosts) wh
               (ap₂ (λ (xs ys : List ℕ). productAfter (x .numbers .modulus) (blockRows (x .numbers)) (blockInner (x .numbers)) (blockColumns (x .numbers)) xs ys out) (shared A ma out-a masks-a room-a) (shared B mb out-b masks-b room-b)
               ∙ multiplied out room)
               ∙ written-done (answerHeader x (suc i)) answer message (answer-written (length message) whole);
+          host = λ out room.
+              ap₂ (λ (xs ys : List ℕ). hostAfter (x .numbers .modulus) (blockRows (x .numbers)) (blockInner (x .numbers)) (blockColumns (x .numbers)) xs ys out) (payload-is A ma) (payload-is B mb)
+              ∙ host-made out room
+              ∙ sym (drop-at (header (answerHeader x (suc i))) (bytesOf answer) 16 (length-header _));
         }

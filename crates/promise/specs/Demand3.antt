@@ -17,7 +17,7 @@
 --   hasFit, firstFit     == a host has a fit message in a list of calls, and its first
 --   unanswered           == what stands where there is no reply
 --   Trace                == the claim about a whole list of arrivals and decodings
---   Made                 == the messages are what sharing, the host's product and writing give
+--   Made                 == K and the messages are what sharing, the host's product, planning and writing give
 --   Demand3              == the demand
 use mathlib.Core.Path.{_≡_}
 use mathlib.Core.Bool.{Bool, true, false, cond, _&&_, _||_}
@@ -28,18 +28,19 @@ use lib.Dec.{eqb}
 use lib.ListN.{length, getD}
 use Rattle.algebra.specs.Lists.{AllBelow}
 use Rattle.algebra.specs.Sets.{size}
-use Rattle.refusal.specs.Chain.{first, except}
+use Rattle.refusal.specs.Chain.{first, except, done}
 use Rattle.plan.specs.declared.Job.{Job}
-use Rattle.plan.specs.Planning.{prime, blockRows, blockInner, blockColumns, neededOf, planOf, planTests}
+use Rattle.plan.specs.Planning.{prime, blockRows, blockInner, blockColumns, neededOf, planOf, planTests, planned, told, planValues}
 use Rattle.weights.specs.declared.Matrix.{Matrix}
 use Rattle.weights.specs.declared.Matrix.the-variants.{A, B}
 use Rattle.weights.specs.Weights.{side}
 use Rattle.encoding.specs.Encoding.{maskLength, blockLength}
 use Rattle.share.specs.Sharing.{hostShare, shareAfter}
 use Rattle.product.specs.Product.{productOf, productAfter}
+use Rattle.host.specs.Host.{hostAfter}
 use Rattle.header.specs.declared.Header.{Header}
 use Rattle.header.specs.Header.{elementCount}
-use Rattle.message.specs.Format.{messageOf, written}
+use Rattle.message.specs.Format.{messageOf, payload, written}
 use Rattle.heard.specs.Heard.{isHeard}
 use Rattle.arrival.specs.Arriving.{storeLength, place, arrivalTests, arrived, storeAfter, numberOf, heardAfter}
 use Rattle.decode.specs.Decoding.{tableLength, decodeTests, tableAfter}
@@ -237,6 +238,8 @@ pub record Trace (x : Task) (ma mb store : List ℕ) (calls : List Call) : Type 
 -- "Shares, products, K and the bytes of messages are as laid out above, which is what sharing, the host's product, planning and
 -- writing give." The lent buffers are of exact length, and whatever they held.
 pub record Made (x : Task) (i : ℕ) (ma mb : List ℕ) : Type 0 where
+  -- planning tells the layout, K and the sizes of blocks
+  pub plan : told (planned (x .numbers) (x .points)) ≡ done (planValues (x .numbers))
   pub share : (m : Matrix) (ms out message : List ℕ) → Masks m x ms
       → length out ≡ blockLength (side m (planOf (x .numbers)))
       → length message ≡ 16 + 4 * elementCount (shareHeader m x i)
@@ -252,6 +255,14 @@ pub record Made (x : Task) (i : ℕ) (ma mb : List ℕ) : Type 0 where
       out)
       message
       ≡ trueProduct x i ma mb
+  -- the product that a partner links into a C program makes the bytes of the true product's elements from those of the A
+  -- message's and the B message's
+  pub host : (out : List ℕ) → length out ≡ 4 * elementCount (answerHeader x i)
+      → hostAfter (x .numbers .modulus) (blockRows (x .numbers)) (blockInner (x .numbers)) (blockColumns (x .numbers))
+      (payload (shareMessage A x i ma))
+      (payload (shareMessage B x i mb))
+      out
+      ≡ payload (trueProduct x i ma mb)
 
 pub record Demand3 : Type 0 where
   -- "Between two accepted jobs with the same public numbers and points but other matrices, and for any group of gardens chosen
