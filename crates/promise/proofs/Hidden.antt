@@ -25,7 +25,7 @@ use Rattle.weights.specs.declared.Matrix.the-variants.{A, B}
 use Rattle.weights.specs.Weights.{side}
 use Rattle.share.specs.Sharing.{shareOf, point, hostShare}
 use Rattle.message.specs.Format.{messageOf}
-use Rattle.promise.specs.Demand3.{Task, Accepted, SamePublic, Masks, Hidden, publicNumbers, largest, matrix, headerFor, shareHeader, shareMessage}
+use Rattle.promise.specs.Demand3.{Task, SamePublic, Masks, Privacy, publicNumbers, largest, matrix, headerFor, shareHeader, shareMessage}
 use Rattle.promise.proofs.Solvable.{Solvable, solvable-powers}
 use Rattle.promise.proofs.Matching.{MasksFor, Matched, matched}
 
@@ -133,8 +133,7 @@ masks-made m x job ms e h =
     let own = subst (λ (job : Job). MasksFor (prime job) (side m (planOf job)) ms) e h in
     record { exact = own .0; below = own .1 }
 
-pub hidden : (m : Matrix) (x y : Task) → Accepted x → Accepted y → SamePublic x y → (g : ℕ → Bool)
-    → size g (x .numbers .hosts) ≤ largest m x → Hidden m x y g
+pub hidden : Privacy
 unfolding shareMessage
 hidden m x y ax ay same g small =
     let job : Job = x .numbers in

@@ -10,6 +10,7 @@
 --   shareMessage m x i ms     == host i's A message or B message
 --   trueProduct x i ma mb     == host i's true product, as a message
 --   Hidden m x y g       == the masks of two jobs match one to one, so that every host of the group g gets the same bytes
+--   Privacy              == so it is for any two jobs with the same public numbers and points, and any group that is not too large
 --   Call, State, Reply   == an arrival or a decoding; what is carried from call to call; what a call answers
 --   after, reply         == what a call leaves, and what it answers
 --   run, replies         == what a list of calls leaves, and what each of them answers
@@ -143,6 +144,14 @@ pub record Hidden (m : Matrix) (x y : Task) (g : ℕ → Bool) : Type 0 where
   pub same-bytes : (ms : List ℕ) → Masks m x ms → (i : ℕ) → i < x .numbers .hosts → g i ≡ true
       → shareMessage m x (suc i) ms ≡ shareMessage m y (suc i) (partner ms)
 
+-- "Between two accepted jobs with the same public numbers and points but other matrices, and for any group of gardens chosen
+-- beforehand, the masks match one to one so that a group of at most X_A gets byte-equal A messages, and one of at most X_B
+-- byte-equal B messages."
+abbrev pub Privacy : Type 0
+Privacy =
+    (m : Matrix) (x y : Task) → Accepted x → Accepted y → SamePublic x y → (g : ℕ → Bool) → size g (x .numbers .hosts) ≤ largest m x
+    → Hidden m x y g
+
 -- an arrival with its bytes, or a decoding with its table as it stood before
 pub data Call : Type 0 where
   arrival : List ℕ → Call
@@ -265,11 +274,7 @@ pub record Made (x : Task) (i : ℕ) (ma mb : List ℕ) : Type 0 where
       ≡ payload (trueProduct x i ma mb)
 
 pub record Demand3 : Type 0 where
-  -- "Between two accepted jobs with the same public numbers and points but other matrices, and for any group of gardens chosen
-  -- beforehand, the masks match one to one so that a group of at most X_A gets byte-equal A messages, and one of at most X_B
-  -- byte-equal B messages."
-  pub hidden : (m : Matrix) (x y : Task) → Accepted x → Accepted y → SamePublic x y → (g : ℕ → Bool)
-      → size g (x .numbers .hosts) ≤ largest m x → Hidden m x y g
+  pub hidden : Privacy
   -- "Yet for either job, under any masks, and for every list of arrivals and decodings of it, in any order, refused ones
   -- included, from no garden heard and whatever the store held: .."
   pub yet : (x : Task) → Accepted x → (ma mb : List ℕ) → Masks A x ma → Masks B x mb → (store : List ℕ)
