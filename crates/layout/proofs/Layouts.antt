@@ -1,7 +1,7 @@
 -- What holds of both layouts, and which of them is used.
 --
 --   layouts    the statement of specs/Layouts.antt
-use mathlib.Core.Path.{_≡_, refl, sym, subst}
+use mathlib.Core.Path.{refl, sym, subst}
 use mathlib.Core.Logic.{⊎-elim}
 use Prim.Native.Nat.{ℕ, _<_, _≤_}
 use native.Mathlib.Nat.{le-refl, le-of-lt, le-of-eq}
@@ -9,7 +9,7 @@ use Rattle.algebra.proofs.Orders.{le-or-lt}
 use Rattle.layout.specs.declared.Parameters.{Parameters}
 use Rattle.layout.specs.declared.Layout.{Layout}
 use Rattle.layout.specs.declared.Layout.the-variants.{First, Second}
-use Rattle.layout.specs.Exponents.{exponents, choice}
+use Rattle.layout.specs.Exponents.{exponents}
 use Rattle.layout.specs.Layouts.{Layouts}
 use Rattle.layout.proofs.Nests.{first-chosen, second-chosen}
 use Rattle.layout.proofs.Soundness.{sound, threshold}
