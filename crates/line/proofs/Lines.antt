@@ -2,6 +2,7 @@
 --
 --   line-back    a line of ten numbers is read, and its numbers are those
 --   line-only    what is read is the line of its numbers
+--   lines        so exactly the lines of ten numbers are read: the statement of specs/Line.antt
 use mathlib.Core.Path.{_≡_, refl, sym, ap, _∙_, subst}
 use mathlib.Core.Bool.{Bool, true, false, not, _||_, true≢false}
 use mathlib.Core.Logic.{⊎-elim}
@@ -18,8 +19,10 @@ use Rattle.algebra.specs.Lists.{AllBelow}
 use Rattle.algebra.proofs.Tests.{by-test}
 use Rattle.algebra.proofs.Orders.{le-or-lt}
 use Rattle.line.specs.declared.Reading.{Reading}
+use Rattle.line.specs.declared.Line.{Line}
 use Rattle.text.specs.Decimal.{digit, spell, decimal}
-use Rattle.line.specs.Line.{written, IsLine, separator, nothing, takesDigit, takesEnd, withDigit, withEnd, refused, step, run, lineOf}
+use Rattle.line.specs.Steps.{separator, nothing, takesDigit, takesEnd, withDigit, withEnd, refused, step, run}
+use Rattle.line.specs.Line.{written, IsLine, lineOf, Lines}
 use Rattle.text.proofs.Decimals.{spell-last, spell-more, tenth, decimal-one, decimal-more}
 use Rattle.line.proofs.Steps.{left-true, right-true, DigitTaken, EndTaken, digit-taken, takes-digit, end-taken, takes-end, step-digit, step-end, step-refused, run-append, line-is}
 
@@ -292,3 +295,15 @@ line-only input e =
     holds-line input r
     (fit-run input [] nothing (λ t. holds-start) (left-true (r .ok) (eqb (r .count) 10) e))
     (eqb-true (r .count) 10 (right-true (r .ok) (eqb (r .count) 10) e))
+
+pub lines : Lines
+lines = record {
+  accepted = λ input ns. (
+    λ e. subst (IsLine input) (ap (λ (l : Line). l .numbers) e) (line-only input (ap (λ (l : Line). l .ok) e)),
+    line-back,
+  );
+  refused = λ input. (
+    λ e ns l. true≢false (sym (ap (λ (l : Line). l .ok) (line-back l)) ∙ e),
+    λ none. ⊎-elim (λ t. absurd (none (lineOf input .numbers) (line-only input t))) (λ f. f) (by-test (lineOf input .ok)),
+  );
+}

@@ -19,7 +19,8 @@ use lib.Seq.{take-suc}
 use borrow.Author.Tests.{ltb-true, leb-true, eqb-true, lt-ltb, le-leb, eq-eqb}
 use Rattle.line.specs.declared.Reading.{Reading}
 use Rattle.line.specs.declared.Line.{Line}
-use Rattle.line.specs.Line.{separator, isDigit, goesOn, grows, takesDigit, takesEnd, withDigit, withEnd, refused, nothing, step, run, lineOf}
+use Rattle.line.specs.Steps.{separator, isDigit, goesOn, grows, takesDigit, takesEnd, withDigit, withEnd, refused, nothing, step, run}
+use Rattle.line.specs.Line.{lineOf}
 
 pub both : {a b : Bool} → a ≡ true → b ≡ true → (a && b) ≡ true
 both {a} {b} p q = rw p q

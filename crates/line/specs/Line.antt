@@ -1,31 +1,21 @@
 -- A line of ten numbers (01, "What is turned down", Lister): each of 1 to 5 digits, no needless leading 0, one space
--- between, one line feed at the end, nothing after it. A space is 32, a line feed 10; the digits are 48 to 57.
+-- between, one line feed at the end, nothing after it. A space is 32, a line feed 10.
 --
 --   written ns      == the decimals of ns, one space between, one line feed at the end
 --   IsLine input ns == the input is the line of the ten numbers ns, each of 1 to 5 digits
---   separator k     == the byte after number k, with k from 0: a space, and a line feed after the tenth
---   nothing         == the reading before the first byte
---   isDigit b       == b is the byte of a digit
---   goesOn r        == the line has no fault so far, and is not at its end
---   grows r         == the present number may have a further digit: it has at most 4, and is not a 0
---   takesDigit r b  == b is a further digit of the present number
---   takesEnd r b    == b ends the present number
---   withDigit r b   == the reading after that digit
---   withEnd r       == the reading after that end
---   refused r       == the reading after any other byte
---   step r b        == the reading after the byte b
---   run r bytes     == the reading after the bytes
---   lineOf input    == the line that the input is: ok where it is one, with its ten numbers
+--   lineOf input    == the line that the input is read as, byte by byte: ok where it is one, with its ten numbers
+--   Lines           == exactly the lines of ten numbers are read, each as its own numbers
 use mathlib.Core.Path.{_≡_}
-use mathlib.Core.Bool.{Bool, true, false, not, cond, _&&_, _||_}
+use mathlib.Core.Bool.{true, false, _&&_}
+use mathlib.Core.Logic.{_↔_}
 use mathlib.Core.List.{List, [], _∷_, _++_}
-use Prim.Native.Nat.{ℕ, _+_, _-_, _*_}
-use lib.Dec.{ltb, leb, eqb}
-use lib.ListN.{length, set, replicate}
+use Prim.Native.Nat.{ℕ}
+use lib.Dec.{eqb}
+use lib.ListN.{length}
 use Rattle.algebra.specs.Lists.{AllBelow}
-use Rattle.line.specs.declared.Reading.{Reading}
-use Rattle.line.specs.declared.Line.{Line}
 use Rattle.text.specs.Decimal.{decimal}
+use Rattle.line.specs.declared.Line.{Line}
+use Rattle.line.specs.Steps.{nothing, run}
 
 unfoldable pub written : List ℕ → List ℕ
 written [] = []
@@ -34,45 +24,14 @@ written (n ∷ m ∷ ns) = decimal n ++ (32 ∷ written (m ∷ ns))
 
 pub record IsLine (input ns : List ℕ) : Type 0 where
   pub ten : length ns ≡ 10
+  -- of 1 to 5 digits
   pub short : AllBelow 100000 ns
   pub is : input ≡ written ns
 
-unfoldable pub separator : ℕ → ℕ
-separator k = cond (eqb k 9) 10 32
-
-unfoldable pub nothing : Reading
-nothing = record { ok = true; begun = false; value = 0; count = 0; numbers = replicate 10 0 }
-
-unfoldable pub isDigit : ℕ → Bool
-isDigit b = leb 48 b && leb b 57
-
-unfoldable pub goesOn : Reading → Bool
-goesOn r = r .ok && ltb (r .count) 10
-
-unfoldable pub grows : Reading → Bool
-grows r = ltb (r .value) 10000 && (not (r .begun) || ltb 0 (r .value))
-
-unfoldable pub takesDigit : Reading → ℕ → Bool
-takesDigit r b = goesOn r && isDigit b && grows r
-
-unfoldable pub takesEnd : Reading → ℕ → Bool
-takesEnd r b = goesOn r && r .begun && eqb b (separator (r .count))
-
-unfoldable pub withDigit : Reading → ℕ → Reading
-withDigit r b = record { ok = r .ok; begun = true; value = r .value * 10 + (b - 48); count = r .count; numbers = r .numbers }
-
-unfoldable pub withEnd : Reading → Reading
-withEnd r = record { ok = r .ok; begun = false; value = 0; count = r .count + 1; numbers = set (r .numbers) (r .count) (r .value) }
-
-unfoldable pub refused : Reading → Reading
-refused r = record { ok = false; begun = r .begun; value = r .value; count = r .count; numbers = r .numbers }
-
-unfoldable pub step : Reading → ℕ → Reading
-step r b = cond (takesDigit r b) (withDigit r b) (cond (takesEnd r b) (withEnd r) (refused r))
-
-unfoldable pub run : Reading → List ℕ → Reading
-run r [] = r
-run r (b ∷ bytes) = run (step r b) bytes
-
 unfoldable pub lineOf : List ℕ → Line
 lineOf input = let r = run nothing input in record { ok = r .ok && eqb (r .count) 10; numbers = r .numbers }
+
+pub record Lines : Type 0 where
+  pub accepted : (input ns : List ℕ) → (lineOf input ≡ record { ok = true; numbers = ns }) ↔ IsLine input ns
+  -- "26 ..: input is not ten numbers of 1 to 5 digits, no needless leading 0, one space between, one LF at the end"
+  pub refused : (input : List ℕ) → (lineOf input .ok ≡ false) ↔ ((ns : List ℕ) → IsLine input ns → ⊥)

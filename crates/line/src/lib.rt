@@ -1,6 +1,7 @@
 // A line of ten numbers, read byte by byte.
 ghost use mathlib.Core.Path.{_≡_};
-ghost use Rattle.line.specs.Line.{separator, goesOn, isDigit, grows, takesDigit, takesEnd, step, lineOf};
+ghost use Rattle.line.specs.Steps.{separator, goesOn, isDigit, grows, takesDigit, takesEnd, step};
+ghost use Rattle.line.specs.Line.{lineOf};
 
 const SPACE: u8 = 32;
 

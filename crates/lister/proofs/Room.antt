@@ -1,31 +1,32 @@
 -- The lister's text always has room in 4096 bytes.
 --
 --   row-length, grid-length    each value takes at most six bytes
---   term-small                 the exponents and places of an accepted job are below K, which is at most 64
 --   refused-room               the line of a refusal
 --   plan-room                  the text of an accepted plan
-use mathlib.Core.Path.{_≡_, ap}
+--   room                       what is printed for any input
+use mathlib.Core.Path.{_≡_, refl, ap}
+use mathlib.Core.Bool.{Bool, true, false, cond}
 use mathlib.Core.List.{List, [], _∷_, _++_}
-use Prim.Native.Nat.{ℕ, zero, suc, _+_, _*_, _^_, _<_, _≤_}
+use Prim.Native.Nat.{ℕ, zero, suc, _+_, _*_, _<_, _≤_}
 use native.Mathlib.Nat.{mul-le-mul}
 use native.Mathlib.Omega.{arith}
 use lib.ListN.{length, length-append}
 use Rattle.algebra.specs.Lists.{tab, grid}
+use Rattle.refusal.specs.Chain.{first, answer}
 use Rattle.field.specs.Modulus.{prime}
-use Rattle.field.proofs.Moduli.{prime-small}
 use Rattle.layout.specs.declared.Parameters.{Parameters}
-use Rattle.layout.specs.declared.Layout.{Layout}
-use Rattle.layout.specs.declared.Layout.the-variants.{First, Second}
 use Rattle.layout.specs.declared.Series.the-variants.{BlocksA, MasksA, BlocksB, MasksB, Places}
 use Rattle.layout.specs.Exponents.{Exponents, exponents, number, term}
 use Rattle.layout.specs.Sound.{Cut, Sound}
 use Rattle.layout.proofs.Soundness.{sound}
 use Rattle.plan.specs.declared.Job.{Job}
-use Rattle.plan.specs.Planning.{parameters, modulusOf, layoutOf, neededOf, planOf}
-use Rattle.plan.proofs.Facts.{Fits}
+use Rattle.plan.specs.declared.Planned.the-variants.{Accepted, Refused}
+use Rattle.plan.specs.Planning.{parameters, modulusOf, layoutOf, neededOf, planTests, planOf, planned}
+use Rattle.plan.proofs.Facts.{Fits, facts}
 use Rattle.text.specs.Decimal.{decimal}
 use Rattle.text.proofs.Decimals.{decimal-length, decimal-short}
-use Rattle.lister.specs.Listing.{ascii, value, values, line, sideLine, numberLines, aLine, bLine, cLine, planText, refusedText}
+use Rattle.line.specs.Line.{lineOf}
+use Rattle.lister.specs.Listing.{ascii, value, values, line, sideLine, numberLines, aLine, bLine, cLine, planText, refusedText, jobOf, told, reply, listing}
 use Rattle.lister.proofs.Writes.{row-more, grid-more, line-one}
 
 value-length : (n : ℕ) → n < 100000 → length (value n) ≤ 6
@@ -57,22 +58,22 @@ grid-length f (suc rows) columns h =
       row-length (f rows) columns (λ j l. h rows j (omega arith) l),
     )
 
--- a line of one number that has at most ten digits
-one-length : (label : List ℕ) (n : ℕ) → n < 2 ^ 32 → length (line label (n ∷ [])) ≤ length label + 12
+-- a line of one number, which has at most ten digits
+one-length : (label : List ℕ) (n : ℕ) → length (line label (n ∷ [])) ≤ length label + 12
 unfolding value
-one-length label n h =
+one-length label n =
     omega (
       arith,
       ap length (line-one label n),
       length-append label (value n ++ ascii "\n"),
       length-append (value n) (ascii "\n"),
       length-append (ascii " ") (decimal n),
-      decimal-length n h,
+      decimal-length n,
     )
 
-pub refused-room : (n : ℕ) → n < 2 ^ 32 → length (refusedText n) ≤ 4096
+refused-room : (n : ℕ) → length (refusedText n) ≤ 4096
 unfolding refusedText
-refused-room n h = omega (arith, one-length (ascii "REFUSED") n h)
+refused-room n = omega (arith, one-length (ascii "REFUSED") n)
 
 -- ---- an accepted plan
 
@@ -95,10 +96,6 @@ side-length label blocks masks =
 line-length : (label ns : List ℕ) → length (line label ns) ≡ length label + (length (values ns) + 1)
 unfolding line
 line-length label ns = omega (arith, length-append label (values ns ++ ascii "\n"), length-append (values ns) (ascii "\n"))
-
-number-small : (l : Layout) → number l ≤ 2
-number-small First = omega arith
-number-small Second = omega arith
 
 module _ (job : Job) (fits : Fits job) where
   g : Parameters
@@ -165,13 +162,13 @@ module _ (job : Job) (fits : Fits job) where
         length-append a (b ++ (c ++ d)),
         length-append b (c ++ d),
         length-append c d,
-        one-length (ascii "MODULUS") (prime (modulusOf job)) (omega (arith, prime-small (modulusOf job))),
-        one-length (ascii "LAYOUT") (number (layoutOf job)) (omega (arith, number-small (layoutOf job))),
-        one-length (ascii "HOSTS") (job .hosts) (omega (arith, fits .hosts-high)),
-        one-length (ascii "NEEDED") (neededOf job) (omega (arith, fits .enough, fits .hosts-high)),
+        one-length (ascii "MODULUS") (prime (modulusOf job)),
+        one-length (ascii "LAYOUT") (number (layoutOf job)),
+        one-length (ascii "HOSTS") (job .hosts),
+        one-length (ascii "NEEDED") (neededOf job),
       )
 
-  pub plan-room : length (planText (job .hosts) (planOf job)) ≤ 4096
+  plan-room : length (planText (job .hosts) (planOf job)) ≤ 4096
   unfolding planText planOf g
   plan-room =
       let n = numberLines (job .hosts) (planOf job) in
@@ -179,3 +176,19 @@ module _ (job : Job) (fits : Fits job) where
       let b = bLine (layoutOf job) g in
       let c = cLine (layoutOf job) g in
       omega (arith, length-append n (a ++ (b ++ c)), length-append a (b ++ c), length-append b c, number-room, a-room, b-room, c-room)
+
+reply-room : (job : Job) → length (reply job) ≤ 4096
+unfolding reply told planned answer
+reply-room job = go (first (planTests job (tab suc (job .hosts)))) refl
+  where
+    go : (n : ℕ) → first (planTests job (tab suc (job .hosts))) ≡ n → length (told (job .hosts) (answer n (Accepted (planOf job)) Refused)) ≤ 4096
+    go zero e = plan-room job (facts job (tab suc (job .hosts)) e .fits)
+    go (suc n) e = refused-room (suc n)
+
+pub room : (input : List ℕ) → length (listing input) ≤ 4096
+unfolding listing
+room input = go (lineOf input .ok)
+  where
+    go : (b : Bool) → length (cond b (reply (jobOf (lineOf input .numbers))) (refusedText 26)) ≤ 4096
+    go true = reply-room (jobOf (lineOf input .numbers))
+    go false = refused-room 26

@@ -7,8 +7,10 @@
 --   residue-dot       an exact entry leaves what the table's element is
 --   residue-element   a whole number in range leaves its element
 --   exact             so signed reading is exact, for any q above 1
+--   exact-reading     and so is the call: the statement of specs/Readings.antt
 use mathlib.Core.Path.{_≡_, ap, _∙_}
 use mathlib.Core.Bool.{Bool, true, false, cond}
+use mathlib.Core.List.{[], _∷_}
 use mathlib.Core.Logic.{⊎-elim}
 use Prim.Native.Nat.{ℕ, zero, suc, _+_, _-_, _*_, _%_, _<_, _≤_}
 use native.Mathlib.Nat.{not-suc-le-zero, mod-lt, mod-eq-of-lt}
@@ -20,8 +22,13 @@ use Rattle.algebra.specs.Sums.{sum}
 use Rattle.algebra.specs.Modular.{⟨_⟩_≈_}
 use Rattle.algebra.proofs.Orders.{le-or-lt}
 use Rattle.algebra.proofs.Modular.{≈-refl, ≈-sym, ≈-trans, ≈-of-eq, ≈-mod, ≈-add, ≈-mul, ≈-by, ≈-multiple, ≈-exact}
-use Rattle.signed.specs.Signed.{half, signed, inRange, element, Taking, as-they-are, by-reading, taken, dot, Exact}
+use Rattle.refusal.specs.Chain.{done}
+use Rattle.field.specs.Modulus.{modulus}
+use Rattle.field.proofs.Moduli.{known-number}
+use Rattle.signed.specs.Signed.{half, signed, inRange, element, Taking, as-they-are, by-reading, taken, dot, Exact, signedTold}
+use Rattle.signed.specs.Readings.{ExactReading}
 use Rattle.signed.proofs.Readings.{in-neg, element-below, signed-element}
+use Rattle.signed.proofs.Answers.{signed-value}
 
 unfoldable pub residue : ℕ → ℤ → ℕ
 residue p (pos n) = n
@@ -96,4 +103,17 @@ exact (suc p) h = record {
       let same : ⟨ suc p ⟩ s % suc p ≈ element (suc p) z = ≈-trans (≈-mod s) (≈-trans (≈-sym (residue-dot p how n a b)) (residue-element p z r)) in
       ap (signed (suc p)) (≈-exact (mod-lt s (omega arith)) (element-below (suc p) z (omega arith) r) same) ∙ signed-element (suc p) z r;
   stands = λ how n a b k l e. ≈-trans (≈-sym (residue-dot p how n a b)) (≈-of-eq (ap (residue p) e)) .same ∙ mod-eq-of-lt l;
+}
+
+pub exact-reading : ExactReading
+unfolding signedTold
+exact-reading = record {
+  exact = exact;
+  reads = λ n e how count a b r.
+      let q = modulus n in
+      let k = known-number n e in
+      let s : ℕ = sum count (λ i. a i * b i) in
+      let big : 1 < q = k .is-prime .above-one in
+      ap signedTold (signed-value k (s % q) (mod-lt s (omega arith)))
+      ∙ ap (λ (z : ℤ). done (z ∷ [])) (exact q big .reads how count a b r);
 }

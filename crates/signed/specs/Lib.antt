@@ -1,2 +1,3 @@
 -- Elements as signed whole numbers.
 pub mod Signed
+pub mod Readings

@@ -8,8 +8,8 @@
 --   elementTests n z    == those of the way back
 --   signedAnswer n v    == what signed reading answers
 --   elementAnswer n z   == what the way back answers
---   signedNumber r      == the sheet's number for an answer of signed reading, and 0 for a value
---   elementNumber r     == the same of the way back
+--   signedTold r        == what an answer of signed reading is on paper: its number, 0 where it is a value, and that value
+--   elementTold r       == the same of the way back
 --   Taking              == how the elements of A and B are taken: as they are, or all by their signed reading
 --   taken q how v       == element v, so taken
 --   dot ρ n a b         == the exact sum of ρ (a i) · ρ (b i) over i below n: an entry of AB, its elements taken by ρ
@@ -23,7 +23,7 @@ use lib.Dec.{leb, ltb}
 use lib.IntN.{ℤ, pos, negsuc, negℤ, _+ℤ_, _-ℤ_, _*ℤ_}
 use lib.Signed.{leZ}
 use Rattle.algebra.specs.Sums.{sum}
-use Rattle.refusal.specs.Chain.{Row, first, answer}
+use Rattle.refusal.specs.Chain.{Row, first, answer, Told, done, refused}
 use Rattle.signed.specs.declared.Signed.{Signed}
 use Rattle.signed.specs.declared.Element.{Element}
 use Rattle.field.specs.Modulus.{modulus, noModulus}
@@ -54,13 +54,13 @@ signedAnswer number v = answer (first (signedTests number v)) (Signed.Value (sig
 unfoldable pub elementAnswer : ℕ → ℤ → Element
 elementAnswer number z = answer (first (elementTests number z)) (Element.Value (element (modulus number) z)) Element.Refused
 
-unfoldable pub signedNumber : Signed → ℕ
-signedNumber (Signed.Value z) = 0
-signedNumber (Signed.Refused n) = n
+unfoldable pub signedTold : Signed → Told ℤ
+signedTold (Signed.Value z) = done (z ∷ [])
+signedTold (Signed.Refused n) = refused n
 
-unfoldable pub elementNumber : Element → ℕ
-elementNumber (Element.Value v) = 0
-elementNumber (Element.Refused n) = n
+unfoldable pub elementTold : Element → Told ℕ
+elementTold (Element.Value v) = done (v ∷ [])
+elementTold (Element.Refused n) = refused n
 
 pub data Taking : Type 0 where
   as-they-are by-reading : Taking

@@ -2,12 +2,10 @@
 --
 --   spell-last, spell-more          the digits of a number of one digit, and of a larger one
 --   tenth                           a digit less is a power of ten less
---   decimal-length                  a number of 32 bits has 1 to 10 digits
+--   decimal-length                  a number has at most ten digits
 --   decimal-short                   a number below 100000 has at most 5
 --   decimal-one, decimal-more       a number of one digit, and one with a digit more
---   value v bytes                   the number of some digits after the digits of v
---   decimal-value                   the digits of a number of 32 bits are those of that number
---   decimal-leads                   the first digit of a number above 0 is no 0
+--   numerals                        the digits of a number of at most ten digits: the statement of specs/Numerals.antt
 --   Digits                          the last digits of n, from place `start` + 1 on, and the rest of n
 --   digits-start, digits-more       none of them, and one more
 --   digits-room                     there is a place for one more
@@ -19,10 +17,11 @@ use Prim.Native.Nat.{ℕ, zero, suc, _+_, _-_, _*_, _/_, _%_, _^_, _<_, _≤_}
 use native.Mathlib.Nat.{pow-suc, le-refl}
 use native.Mathlib.Omega.{arith}
 use lib.ListN.{length, getD, List·getD-append, take, drop, set, replicate, length-append, length-drop, length-set}
-use lib.Seq.{take-all, drop-cons, drop-set-lt, getD-set-same, append-snoc}
+use lib.Seq.{take-all, drop-cons, drop-set-lt, getD-set-same, getD-at, append-snoc}
 use borrow.Author.Tests.{lt-ltb, le-ltb}
 use Rattle.algebra.proofs.Orders.{le-or-lt}
 use Rattle.text.specs.Decimal.{digit, spell, decimal}
+use Rattle.text.specs.Numerals.{value, Numerals}
 
 pub spell-last : (k n : ℕ) → n < 10 → spell (suc k) n ≡ digit n ∷ []
 unfolding spell
@@ -53,9 +52,18 @@ spell-positive k n =
     (λ b. omega (arith, ap length (spell-last k n b)))
     (le-or-lt 10 n)
 
-pub decimal-length : (n : ℕ) → n < 2 ^ 32 → (1 ≤ length (decimal n)) × (length (decimal n) ≤ 10)
+spell-most : (k n : ℕ) → length (spell k n) ≤ k
+unfolding spell
+spell-most zero n = omega arith
+spell-most (suc k) n =
+    let ih = spell-most k (n / 10) in
+    ⊎-elim (λ b. omega (arith, ap length (spell-more k n b), length-append (spell k (n / 10)) (digit (n % 10) ∷ []), ih))
+    (λ b. omega (arith, ap length (spell-last k n b)))
+    (le-or-lt 10 n)
+
+pub decimal-length : (n : ℕ) → length (decimal n) ≤ 10
 unfolding decimal
-decimal-length n h = (spell-positive 9 n, spell-length 10 9 n (omega arith))
+decimal-length n = spell-most 10 n
 
 pub decimal-short : (n : ℕ) → n < 100000 → length (decimal n) ≤ 5
 unfolding decimal
@@ -86,9 +94,28 @@ decimal-more v d pos small one =
     ∙ ap (λ (k : ℕ). spell 9 v ++ (digit k ∷ [])) end
     ∙ ap (λ (xs : List ℕ). xs ++ (digit d ∷ [])) (spell-room 8 v small)
 
-unfoldable pub value : ℕ → List ℕ → ℕ
-value v [] = v
-value v (b ∷ bytes) = value (v * 10 + (b - 48)) bytes
+-- every byte is a digit
+abbrev Digital : List ℕ → Type 0
+Digital xs = (i : ℕ) → i < length xs → (digit 0 ≤ getD xs i 0) × (getD xs i 0 ≤ digit 9)
+
+digital-more : (xs : List ℕ) (d : ℕ) → d < 10 → Digital xs → Digital (xs ++ (digit d ∷ []))
+unfolding digit
+digital-more xs d h all = λ i l.
+    ⊎-elim
+    (λ b.
+    let end : length xs ≡ i = omega (arith, length-append xs (digit d ∷ [])) in
+    omega (arith, getD-at xs (digit d) [] 0 i end))
+    (λ b. omega (arith, all i b, List·getD-append xs (digit d ∷ []) 0 i b))
+    (le-or-lt (length xs) i)
+
+spell-digits : (k n : ℕ) → Digital (spell k n)
+unfolding spell
+spell-digits zero n = λ i h. omega arith
+spell-digits (suc k) n =
+    let ih = spell-digits k (n / 10) in
+    ⊎-elim (λ b. subst Digital (sym (spell-more k n b)) (digital-more (spell k (n / 10)) (n % 10) (omega arith) ih))
+    (λ b. subst Digital (sym (spell-last k n b)) (digital-more [] n b (λ i h. omega arith)))
+    (le-or-lt 10 n)
 
 value-last : (v : ℕ) (xs : List ℕ) (d : ℕ) → value v (xs ++ (digit d ∷ [])) ≡ value v xs * 10 + d
 unfolding value digit
@@ -104,11 +131,7 @@ spell-value (suc k) n h =
     (λ b. ap (value 0) (spell-last k n b) ∙ omega arith)
     (le-or-lt 10 n)
 
-pub decimal-value : (n : ℕ) → n < 2 ^ 32 → value 0 (decimal n) ≡ n
-unfolding decimal
-decimal-value n h = spell-value 10 n (omega arith)
-
-spell-leads : (k n : ℕ) → 0 < n → n < 10 ^ suc k → 48 < getD (spell (suc k) n) 0 0
+spell-leads : (k n : ℕ) → 0 < n → n < 10 ^ suc k → digit 0 < getD (spell (suc k) n) 0 0
 unfolding digit
 spell-leads zero n pos h =
     let one : n < 10 = omega arith in
@@ -122,9 +145,14 @@ spell-leads (suc k) n pos h =
     (λ b. subst (λ (xs : List ℕ). 48 < getD xs 0 0) (sym (spell-last (suc k) n b)) (omega arith))
     (le-or-lt 10 n)
 
-pub decimal-leads : (n : ℕ) → 0 < n → n < 2 ^ 32 → 48 < getD (decimal n) 0 0
+pub numerals : Numerals
 unfolding decimal
-decimal-leads n pos h = spell-leads 9 n pos (omega arith)
+numerals n h = record {
+  digits = spell-digits 10 n;
+  value-is = spell-value 10 n h;
+  alone = λ e. ap decimal e ∙ decimal-one 0 (omega arith);
+  leads = λ pos. spell-leads 9 n pos h;
+}
 
 pub record Digits (n : ℕ) (digits : List ℕ) (start rest : ℕ) : Type 0 where
   pub whole : length digits ≡ 10

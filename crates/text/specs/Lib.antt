@@ -1,2 +1,3 @@
 -- Text in a buffer.
 pub mod Decimal
+pub mod Numerals

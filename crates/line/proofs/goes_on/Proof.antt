@@ -1,5 +1,5 @@
 -- `line::goes_on` meets its contract.
-use Rattle.line.specs.Line.{goesOn}
+use Rattle.line.specs.Steps.{goesOn}
 use Rattle.line.proofs.goes_on.Statement.{statement}
 use Rattle.line.proofs.goes_on.Tie as tie
 

@@ -1,6 +1,6 @@
 -- `line::is_digit` meets its contract.
 use borrow.Author.Tests.{le-leb, lt-leb}
-use Rattle.line.specs.Line.{isDigit}
+use Rattle.line.specs.Steps.{isDigit}
 use Rattle.line.proofs.is_digit.Statement.{statement}
 use Rattle.line.proofs.is_digit.Tie as tie
 

@@ -1,6 +1,6 @@
 -- `line::may_grow` meets its contract.
 use borrow.Author.Tests.{lt-ltb, le-ltb}
-use Rattle.line.specs.Line.{grows}
+use Rattle.line.specs.Steps.{grows}
 use Rattle.line.proofs.may_grow.Statement.{statement}
 use Rattle.line.proofs.may_grow.Tie as tie
 

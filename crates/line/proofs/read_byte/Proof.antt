@@ -3,7 +3,7 @@ use mathlib.Core.Path.{_≡_, sym, _∙_}
 use mathlib.Core.Bool.{true, false}
 use native.Mathlib.Omega.{arith}
 use borrow.Author.Needs.{needs}
-use Rattle.line.specs.Line.{takesDigit, takesEnd, withDigit, withEnd, refused}
+use Rattle.line.specs.Steps.{takesDigit, takesEnd, withDigit, withEnd, refused}
 use Rattle.line.proofs.Steps.{DigitTaken, EndTaken, digit-taken, end-taken, step-digit, step-end, step-refused}
 use Rattle.line.proofs.read_byte.Statement.{statement}
 use Rattle.line.proofs.read_byte.Tie as tie

@@ -7,7 +7,7 @@ use lib.Seq.{take-all}
 use lib.ListN.{length, getD, take}
 use borrow.Author.Needs.{needs}
 use Rattle.line.specs.declared.Reading.{Reading}
-use Rattle.line.specs.Line.{nothing, run, step}
+use Rattle.line.specs.Steps.{nothing, run, step}
 use Rattle.line.proofs.Steps.{run-more, line-is}
 use Rattle.line.proofs.read_line.Statement.{statement}
 use Rattle.line.proofs.read_line.Tie as tie

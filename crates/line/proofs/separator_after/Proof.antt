@@ -1,6 +1,6 @@
 -- `line::separator_after` meets its contract.
 use borrow.Author.Tests.{eq-eqb, ne-eqb}
-use Rattle.line.specs.Line.{separator}
+use Rattle.line.specs.Steps.{separator}
 use Rattle.line.proofs.separator_after.Statement.{statement}
 use Rattle.line.proofs.separator_after.Tie as tie
 

@@ -3,7 +3,7 @@ use mathlib.Core.Path.{_≡_, sym, _∙_}
 use mathlib.Core.Bool.{true}
 use borrow.Author.Tests.{not-true, not-false}
 use borrow.Author.Needs.{needs}
-use Rattle.line.specs.Line.{goesOn, takesDigit}
+use Rattle.line.specs.Steps.{goesOn, takesDigit}
 use Rattle.line.proofs.takes_digit.Statement.{statement}
 use Rattle.line.proofs.takes_digit.Tie as tie
 

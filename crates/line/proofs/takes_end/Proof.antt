@@ -5,7 +5,7 @@ use Prim.Native.Nat.{ℕ}
 use lib.Dec.{eqb}
 use borrow.Author.Tests.{not-true, not-false}
 use borrow.Author.Needs.{needs}
-use Rattle.line.specs.Line.{goesOn, takesEnd}
+use Rattle.line.specs.Steps.{goesOn, takesEnd}
 use Rattle.line.proofs.takes_end.Statement.{statement}
 use Rattle.line.proofs.takes_end.Tie as tie
 

@@ -1,17 +1,14 @@
 -- `lister::list` meets its contract.
 use mathlib.Core.Path.{_≡_, sym, ap, _∙_}
-use Prim.Native.Nat.{suc, _≤_}
-use lib.ListN.{length}
+use Prim.Native.Nat.{suc}
 use borrow.Author.Tests.{not-true, not-false}
 use Rattle.algebra.specs.Lists.{tab}
-use Rattle.plan.proofs.Facts.{facts, planned-facts}
 use Rattle.plan.specs.declared.Job.{Job}
 use Rattle.plan.specs.declared.Planned.{Planned}
 use Rattle.plan.specs.Planning.{planned}
 use Rattle.line.specs.declared.Line.{Line}
-use Rattle.lister.specs.Listing.{planText, refusedText, jobOf, told, listing}
+use Rattle.lister.specs.Listing.{jobOf, told, listing}
 use native.Mathlib.Omega.{arith}
-use Rattle.lister.proofs.Room.{refused-room, plan-room}
 use Rattle.lister.proofs.Replies.{listed, malformed, replied}
 use borrow.Author.Needs.{needs}
 use Rattle.lister.proofs.list.Statement.{statement}
@@ -27,7 +24,7 @@ returns : tie.Need-returns
 returns c =
     let e = c .before .before .before .before .before .before in
     let not-ok = ap (λ (l : Line). l .ok) (sym (c .before .before .before .before .read-line .ensures)) ∙ not-true _ (c .before .before .if1 .taken) in
-    listed (e .args .input .now) (malformed (e .args .input .now) not-ok) (omega (arith, refused-room 26 (omega arith))) (c .put-refused .ensures)
+    listed (e .args .input .now) (malformed (e .args .input .now) not-ok) (omega arith) (c .put-refused .ensures)
 
 job-of-requires : tie.Need-job-of-requires
 job-of-requires c κs = search needs
@@ -38,21 +35,11 @@ plan-of-requires c κs = search needs
 enum-known-plan : tie.Need-enum-known-plan
 enum-known-plan c = search needs
 
--- the text of the plan, and that of a refusal, have room
-plan-text : (c : tie.After-plan) → length (planText (c .before .before .before .job-of .result .hosts) (c .plan .given .0 .0)) ≤ 4096
-plan-text c =
-    let job = c .before .before .before .job-of .result in
-    let p = planned-facts job (tab suc (job .hosts)) (sym (c .before .before .plan-of .ensures) ∙ c .plan .given .1) in
-    rw (p .1) (plan-room job (facts job (tab suc (job .hosts)) (p .0) .fits))
-
 put-plan-requires : tie.Need-put-plan-requires
 put-plan-requires c κs = search needs
 
 enum-known-n : tie.Need-enum-known-n
 enum-known-n c = search needs
-
-refused-text : (c : tie.After-known-told2) → length (refusedText (c .before .n .given .0 .0)) ≤ 4096
-refused-text c = refused-room (c .before .n .given .0 .0) (omega arith)
 
 put-refused-requires-2 : tie.Need-put-refused-requires-2
 put-refused-requires-2 c κs = search needs
@@ -69,11 +56,11 @@ reply-is c {answer} is =
 
 returns-2 : tie.Need-returns-2
 unfolding told
-returns-2 c = listed (c .before .before .before .before .before .before .before .before .before .before .before .before .args .input .now) (reply-is (c .before .before .before .before .before) (c .before .before .before .plan .given .1)) (omega (arith, plan-text (c .before .before .before))) (c .put-plan .ensures)
+returns-2 c = listed (c .before .before .before .before .before .before .before .before .before .before .before .before .args .input .now) (reply-is (c .before .before .before .before .before) (c .before .before .before .plan .given .1)) (omega arith) (c .put-plan .ensures)
 
 returns-3 : tie.Need-returns-3
 unfolding told
-returns-3 c = listed (c .before .before .before .before .before .before .before .before .before .before .before .before .args .input .now) (reply-is (c .before .before .before .before .before) (c .before .before .before .n .given .1)) (omega (arith, refused-text (c .before .before))) (c .put-refused2 .ensures)
+returns-3 c = listed (c .before .before .before .before .before .before .before .before .before .before .before .before .args .input .now) (reply-is (c .before .before .before .before .before) (c .before .before .before .n .given .1)) (omega arith) (c .put-refused2 .ensures)
 
 pub list-spec : {M : Type 1} → statement M
 list-spec =
