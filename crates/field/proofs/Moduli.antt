@@ -70,7 +70,7 @@ prime-tested q t =
     prime-by q k (ltb→lt 1 q (and-left (ltb 1 q) (small && clear q k 2) t)) (ltb→lt q (2 ^ k * 2 ^ k) (and-left small (clear q k 2) rest))
     (and-right small (clear q k 2) rest)
 
--- the one place where the moduli are gone through
+-- computed once, over the list
 field-tested : T (each field-test moduli)
 unfolding each field-test prime-test depth clear moduli
 field-tested = tt
@@ -103,7 +103,7 @@ names zero = refl
 names (suc zero) = refl
 names (suc (suc zero)) = refl
 names (suc (suc (suc zero))) = refl
-names (suc (suc (suc (suc n)))) = over 1 3 (suc (suc (suc (suc n)))) (omega arith) (omega arith)
+names (suc (suc (suc (suc n)))) = over 1 (length moduli) (suc (suc (suc (suc n)))) (omega arith) (omega arith)
 
 at-modulus : (test : ℕ → Bool) → T (each test moduli) → (m : Modulus) → T (test (prime m))
 at-modulus test t m = let e = in-moduli m in subst (λ (q : ℕ). T (test q)) (e .1) (at-number test t (number m) (e .0))

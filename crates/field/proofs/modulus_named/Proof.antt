@@ -1,6 +1,7 @@
 -- `field::modulus_named` meets its contract.
 use mathlib.Core.Path.{sym, ap}
 use native.Mathlib.Omega.{arith}
+use lib.ListN.{length}
 use Rattle.refusal.proofs.Chains.{over}
 use Rattle.field.specs.Modulus.{moduli, noModulus, named}
 use Rattle.field.proofs.Moduli.{not-named}
@@ -25,7 +26,7 @@ returns-4 c = sym (ap named (c .match .keys4))
 
 returns-5 : tie.Need-returns-5
 unfolding noModulus moduli
-returns-5 c = let n = c .before .args .number in sym (not-named n (over 1 3 n (omega arith) (omega arith)))
+returns-5 c = let n = c .before .args .number in sym (not-named n (over 1 (length moduli) n (omega arith) (omega arith)))
 
 pub modulus-named-spec : {M : Type 1} → statement M
 modulus-named-spec = tie.close (tie.spec returns returns-2 returns-3 returns-4 returns-5)
