@@ -4,12 +4,14 @@
 --   modulus n   == the prime q of modulus number n, and 0 where n is no modulus number
 --   noModulus n == n is no modulus number: the test of refusal 1
 --   prime m     == the prime of a modulus
+--   number m    == the number of a modulus
 --   named n     == the modulus of modulus number n
+--   told x      == what a name is on paper: the modulus's number, or refusal 1
 use mathlib.Core.Bool.{Bool}
 use mathlib.Core.List.{List, [], _∷_}
 use Prim.Native.Nat.{ℕ}
 use lib.ListN.{length, getD}
-use Rattle.refusal.specs.Chain.{outside}
+use Rattle.refusal.specs.Chain.{Told, done, refused, outside}
 use Rattle.field.specs.declared.Modulus.{Modulus}
 use Rattle.field.specs.declared.Modulus.the-variants.{Q13, Q257, Q65537}
 use Rattle.field.specs.declared.Named.{Named}
@@ -29,5 +31,14 @@ prime Q13 = 13
 prime Q257 = 257
 prime Q65537 = 65537
 
+abbrev pub number : Modulus → ℕ
+number Q13 = 1
+number Q257 = 2
+number Q65537 = 3
+
 unfoldable pub named : ℕ → Named
 named n = getD (Unknown ∷ Is Q13 ∷ Is Q257 ∷ Is Q65537 ∷ []) n Unknown
+
+abbrev pub told : Named → Told ℕ
+told (Is m) = done (number m ∷ [])
+told Unknown = refused 1

@@ -6,38 +6,39 @@
 --   euclid-start    q and a
 --   euclid-below    the next size is at most q
 --   euclid-step     the next remainder
---   euclid-end      past the last remainder stands the inverse
+--   euclid-none     where a leaves 0, no step is made, and 0 stands for the inverse
+--   euclid-end      else past the last remainder stands the inverse
 use mathlib.Core.Path.{_≡_, sym, ap, _∙_, subst}
 use mathlib.Core.Bool.{Bool, true, false, not}
 use mathlib.Core.Logic.{⊎-elim}
 use Prim.Native.Nat.{ℕ, _+_, _-_, _*_, _/_, _%_, _<_, _≤_}
-use native.Mathlib.Nat.{le-of-lt, mod-lt, div-add-mod, div-eq-sub-div, mul-pos, mul-le-mul-left, mul-le-mul-right, mul-mod-right, mul-one, sub-zero}
+use native.Mathlib.Nat.{le-of-lt, mod-lt, div-add-mod, div-eq-sub-div, mul-pos, mul-le-mul-left, mul-le-mul-right, mul-mod-right, mul-one, sub-zero, zero-mod}
 use native.Mathlib.Omega.{arith}
 use Rattle.algebra.specs.Modular.{⟨_⟩_≈_, Prime, inverse}
 use Rattle.algebra.proofs.Orders.{le-or-lt}
 use Rattle.algebra.proofs.Modular.{≈-sym, ≈-trans, ≈-mod, ≈-add, ≈-scale, ≈-multiple, ≈-by, ≈-of-eq}
-use Rattle.algebra.proofs.Inverses.{inverse-unique}
+use Rattle.algebra.proofs.Inverses.{inverse-of-zero, inverse-unique}
 
 unfoldable pub with-sign : (q : ℕ) (minus : Bool) (factor : ℕ) → ℕ
 with-sign q true factor = q - factor
 with-sign q false factor = factor
 
--- the balance keeps the sizes at most q; past the first step the last size is not 0
+-- the balance keeps the sizes at most q; only before the first step is the last size 0
 pub record Euclid (q a last next last-factor next-factor : ℕ) (minus : Bool) : Type 0 where
   pub falls : next < last
   pub within : last + last-factor ≤ q
-  pub moved : 0 < next + last-factor
+  pub unmoved : last-factor ≡ 0 → next ≡ a % q
   pub positive : 0 < next-factor
   pub balance : last * next-factor + next * last-factor ≡ q
   pub last-leaves : ⟨ q ⟩ a * with-sign q minus last-factor ≈ last
   pub next-leaves : ⟨ q ⟩ a * with-sign q (not minus) next-factor ≈ next
 
-pub euclid-start : (q a next : ℕ) → 1 < q → next ≡ a % q → (next ≡ 0 → ⊥) → Euclid q a q next 0 1 true
+pub euclid-start : (q a next : ℕ) → 1 < q → next ≡ a % q → Euclid q a q next 0 1 true
 unfolding with-sign
-euclid-start q a next h e ne = record {
+euclid-start q a next h e = record {
   falls = subst (λ (k : ℕ). k < q) (sym e) (mod-lt a (omega arith));
   within = omega arith;
-  moved = omega arith;
+  unmoved = λ z. e;
   positive = omega arith;
   balance = omega arith;
   last-leaves = ≈-by (≈-trans (≈-multiple {q = q} a) (≈-sym (≈-multiple {q = q} 1))) (omega (arith, ap (λ (k : ℕ). a * k) (sub-zero q)));
@@ -77,7 +78,7 @@ module _ {q a last next last-factor next-factor : ℕ} {minus : Bool} (pos : 0 <
   euclid-step = record {
     falls = mod-lt last pos;
     within = new-within;
-    moved = omega arith;
+    unmoved = λ z. omega arith;
     positive = omega (arith, mul-pos some (e .positive));
     balance = new-balance;
     last-leaves = e .next-leaves;
@@ -92,18 +93,22 @@ unfolding with-sign
 with-sign-below q true factor pos h = omega arith
 with-sign-below q false factor pos h = h
 
--- the last remainder before 0 divides q, so it is 1
-pub euclid-end : {q a last next last-factor next-factor : ℕ} {minus : Bool} → Prime q → next ≡ 0
-    → Euclid q a last next last-factor next-factor minus → with-sign q minus last-factor ≡ inverse q a
-euclid-end {q} {a} {last} {next} {last-factor} {next-factor} {minus} prime z e =
-    inverse-unique prime a (with-sign q minus last-factor) (with-sign-below q minus last-factor (omega arith) (omega arith))
-    (≈-trans (e .last-leaves) (≈-of-eq one))
-  where
-    product : last * next-factor ≡ q
-    product = omega (arith, ap (λ (k : ℕ). k * last-factor) z)
+module _ {q a last next last-factor next-factor : ℕ} {minus : Bool} (prime : Prime q) (z : next ≡ 0)
+    (e : Euclid q a last next last-factor next-factor minus) where
+  pub euclid-none : last-factor ≡ 0 → last-factor ≡ inverse q a
+  euclid-none none = none ∙ sym (inverse-of-zero prime a (record { same = sym (e .unmoved none) ∙ z ∙ sym (zero-mod q) }))
 
-    one : last ≡ 1
-    one =
-        ⊎-elim (λ (h : last ≤ 1). omega arith)
-        (λ (h : 1 < last). absurd (prime .no-divisor last h (omega arith) (ap (λ (k : ℕ). k % last) (sym product) ∙ mul-mod-right last next-factor)))
-        (le-or-lt last 1)
+  product : last * next-factor ≡ q
+  product = omega (arith, ap (λ (k : ℕ). k * last-factor) z)
+
+  -- the last remainder before 0 divides q, so it is 1
+  one : 0 < last-factor → last ≡ 1
+  one some =
+      ⊎-elim (λ (h : last ≤ 1). omega arith)
+      (λ (h : 1 < last). absurd (prime .no-divisor last h (omega arith) (ap (λ (k : ℕ). k % last) (sym product) ∙ mul-mod-right last next-factor)))
+      (le-or-lt last 1)
+
+  pub euclid-end : 0 < last-factor → with-sign q minus last-factor ≡ inverse q a
+  euclid-end some =
+      inverse-unique prime a (with-sign q minus last-factor) (with-sign-below q minus last-factor some (omega arith))
+      (≈-trans (e .last-leaves) (≈-of-eq (one some)))

@@ -11,17 +11,19 @@ pub fn inverse_of(modulus: Modulus, a: u32) -> u32
     let q = field::prime_of(modulus);
     let mut last = q;
     let mut next = field::reduce(modulus, a as u64);
-    if next == 0 {
-        return 0;
-    }
     // Sizes of factors: a times a remainder's factor, with its sign, leaves the remainder.
     // The signs alternate, and minus says whether the last factor is negative.
     let mut last_factor = 0;
     let mut next_factor = 1;
     let mut minus = true;
-    let factor = loop {
+    loop {
         if next == 0 {
-            break last_factor;
+            // The last remainder is 1 and its factor the inverse; where a is 0, it is q and its factor 0.
+            break if minus && 0 < last_factor {
+                q - last_factor
+            } else {
+                last_factor
+            };
         }
         let quotient = last / next;
         let remainder = last % next;
@@ -31,6 +33,5 @@ pub fn inverse_of(modulus: Modulus, a: u32) -> u32
         last_factor = next_factor;
         next_factor = new_factor;
         minus = !minus;
-    };
-    if minus { q - factor } else { factor }
+    }
 }

@@ -1,7 +1,10 @@
 -- `field::modulus_named` meets its contract.
 use mathlib.Core.Path.{sym, ap}
-use Rattle.field.specs.Modulus.{named}
-use Rattle.field.proofs.Moduli.{named-unknown}
+use native.Mathlib.Omega.{arith}
+use lib.ListN.{length}
+use Rattle.refusal.proofs.Chains.{over}
+use Rattle.field.specs.Modulus.{moduli, noModulus, named}
+use Rattle.field.proofs.Moduli.{not-named}
 use Rattle.field.proofs.modulus_named.Statement.{statement}
 use Rattle.field.proofs.modulus_named.Tie as tie
 
@@ -22,9 +25,8 @@ unfolding named
 returns-4 c = sym (ap named (c .match .keys4))
 
 returns-5 : tie.Need-returns-5
-returns-5 c =
-    let others = c .match .rest .0 in
-    named-unknown (c .before .args .number) (others .0 .0 .1) (others .0 .1) (others .1)
+unfolding noModulus moduli
+returns-5 c = let n = c .before .args .number in sym (not-named n (over 1 (length moduli) n (omega arith) (omega arith)))
 
 pub modulus-named-spec : {M : Type 1} → statement M
 modulus-named-spec = tie.close (tie.spec returns returns-2 returns-3 returns-4 returns-5)
