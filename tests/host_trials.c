@@ -6,6 +6,7 @@
  *   expected      the number that is due, by the sheet's order
  *   entry         an element of the product, the plain way
  *   one_trial     one call, checked
+ *   floors        how many calls must get each number
  */
 #include "mukerihe.h"
 
@@ -171,13 +172,31 @@ static uint32_t one_trial(uint32_t trial, uint8_t *rooms[3])
     return number;
 }
 
+/* The numbers that a call can return, each with the least count of trials that must get it. */
+static const struct {
+    uint32_t number, least;
+} floors[] = {{0, 29007}, {1, 6231}, {2, 32669}, {6, 4028}, {13, 26554}, {14, 1511}};
+
+/* Prints the counts; 1 where one is below its floor. */
+static int below_floors(const uint32_t *counts)
+{
+    int fewer = 0;
+    printf("host_trials: %d calls; of each number", TRIALS);
+    for (size_t i = 0; i < sizeof floors / sizeof floors[0]; i++) {
+        uint32_t count = counts[floors[i].number];
+        printf(" %u: %u;", floors[i].number, count);
+        if (count < floors[i].least)
+            fewer = 1;
+    }
+    printf("%s\n", fewer ? " fewer than their floors" : "");
+    return fewer;
+}
+
 int main(void)
 {
     uint8_t *rooms[3] = {room(), room(), room()};
     uint32_t counts[27] = {0};
     for (uint32_t trial = 0; trial < TRIALS; trial++)
         counts[one_trial(trial, rooms)]++;
-    printf("host_trials: %d calls; done %u; refused with 1: %u, 2: %u, 6: %u, 13: %u, 14: %u\n", TRIALS, counts[0], counts[1],
-           counts[2], counts[6], counts[13], counts[14]);
-    return counts[0] == 0 || counts[1] == 0 || counts[2] == 0 || counts[6] == 0 || counts[13] == 0 || counts[14] == 0;
+    return below_floors(counts);
 }

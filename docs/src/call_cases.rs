@@ -1,16 +1,39 @@
-//! The subcommand `calls`: gathers the cases of shares, products and messages, checks them, writes
-//! them with the answers.
+//! The subcommand `calls`: gathers the cases of shares, products, messages and signed reading, checks
+//! them, writes them with the answers.
 
-use std::collections::{BTreeMap, HashSet};
+use std::collections::HashSet;
 
 use crate::calls::{answer, case, number, Call};
 use crate::cases::save;
+use crate::counts::{hold, Counts, Floors};
 use crate::faults::Expected;
 use crate::message::{read, write, Reading, Writing};
 use crate::product::product;
 use crate::random::Random;
 use crate::share::{share, Side};
-use crate::{message_calls, message_damage, plan_check, product_calls, share_calls};
+use crate::signed::{signed_reading, way_back, SignedReading, WayBack};
+use crate::{message_calls, message_damage, plan_check, product_calls, share_calls, signed_calls};
+
+/// The numbers that each call can give, with the least count of cases.
+#[rustfmt::skip]
+const FLOORS: &Floors = &[
+    ("share of A", &[
+        (0, 199), (1, 72), (2, 97), (3, 87), (4, 54), (5, 79), (6, 65), (7, 33), (8, 33), (9, 44),
+        (10, 29), (11, 13), (12, 24), (13, 49), (14, 18), (15, 14),
+    ]),
+    ("share of B", &[
+        (0, 191), (1, 71), (2, 94), (3, 88), (4, 56), (5, 79), (6, 65), (7, 34), (8, 37), (9, 43),
+        (10, 29), (11, 13), (12, 24), (13, 51), (14, 18), (15, 14),
+    ]),
+    ("product", &[(0, 209), (1, 66), (2, 98), (6, 58), (13, 74), (14, 40)]),
+    ("write", &[(0, 107), (1, 54), (2, 46), (6, 29), (12, 45), (13, 37), (14, 14), (16, 63)]),
+    ("read", &[
+        (0, 291), (1, 311), (2, 67), (6, 42), (12, 249), (13, 72), (14, 86), (16, 314), (17, 78),
+        (18, 135), (19, 378), (20, 111),
+    ]),
+    ("signed reading", &[(0, 577), (1, 121), (14, 145)]),
+    ("way back", &[(0, 575), (1, 242), (25, 318)]),
+];
 
 /// Checks the program, then writes the cases to one file and the answers to the other.
 pub fn write_files(stdin_file: &str, stdout_file: &str) {
@@ -20,12 +43,12 @@ pub fn write_files(stdin_file: &str, stdout_file: &str) {
     calls.iter().for_each(reads_back);
     let cases: Vec<Vec<u8>> = calls.iter().map(case).collect();
     let answers: Vec<Vec<u8>> = calls.iter().map(answer).collect();
+    hold(&counted(&calls), FLOORS);
     save(stdin_file, &cases.concat());
     save(stdout_file, &answers.concat());
-    report(&calls);
 }
 
-/// The shares and answers of 01, "Checked by hand".
+/// The shares, the answers and the signed reading of 01, "Checked by hand".
 fn hand_values() {
     let of = |side, element, mask| {
         [1, 2, 3].map(|host| share(&share_calls::by_hand(side, element, mask, host)))
@@ -36,6 +59,8 @@ fn hand_values() {
     assert_eq!(of(Side::A, 6, 0)[1], Ok(vec![6]));
     let answers = [(12, 0), (6, 9), (0, 5)].map(|(a, b)| product(&product_calls::by_hand(a, b)));
     assert_eq!(answers, elements([0, 2, 0]));
+    let (modulus, element) = (1, 7);
+    assert_eq!(signed_reading(&SignedReading { modulus, element }), Ok(-6));
 }
 
 /// All calls, each once.
@@ -48,6 +73,8 @@ fn gathered() -> Vec<Call> {
     calls.extend(expected(message_calls::fit_readings(random), Call::Read));
     calls.extend(expected(message_damage::expected(random), Call::Read));
     calls.extend(message_damage::computed(random).into_iter().map(Call::Read));
+    calls.extend(expected(signed_calls::readings(random), Call::Signed));
+    calls.extend(expected(signed_calls::ways_back(random), Call::Back));
     let mut seen = HashSet::new();
     calls.retain(|call| seen.insert(case(call)));
     calls
@@ -64,8 +91,8 @@ fn expected<T>(list: Expected<T>, as_call: fn(T) -> Call) -> Vec<Call> {
         .collect()
 }
 
-/// Panics unless a message that is written reads back to its fields and elements, and one that is
-/// read is written again byte for byte.
+/// Panics unless a message that is written reads back to its fields and elements, one that is read
+/// is written again byte for byte, and signed reading and its way back undo each other.
 fn reads_back(call: &Call) {
     match call {
         Call::Write(call) => {
@@ -86,20 +113,36 @@ fn reads_back(call: &Call) {
                 assert_eq!(write(&writing).as_ref(), Ok(&call.message));
             }
         }
-        _ => {}
+        Call::Signed(call) => signed_back(call),
+        Call::Back(call) => back_signed(call),
+        Call::Share(_) | Call::Product(_) => {}
     }
 }
 
-/// Prints how many cases there are of each call and refusal number.
-fn report(calls: &[Call]) {
-    let mut counts: BTreeMap<(&str, u32), u32> = BTreeMap::new();
+/// Panics unless the element comes back from its signed value.
+fn signed_back(call: &SignedReading) {
+    if let Ok(value) = signed_reading(call) {
+        let modulus = call.modulus;
+        assert_eq!(way_back(&WayBack { modulus, value }), Ok(call.element));
+    }
+}
+
+/// Panics unless the value is the signed reading of its element.
+fn back_signed(call: &WayBack) {
+    if let Ok(element) = way_back(call) {
+        let modulus = call.modulus;
+        let reading = SignedReading { modulus, element };
+        assert_eq!(signed_reading(&reading), Ok(call.value));
+    }
+}
+
+/// How many cases there are of each call and refusal number.
+fn counted(calls: &[Call]) -> Counts {
+    let mut counts = Counts::new();
     for call in calls {
         *counts.entry((name(call), number(call))).or_default() += 1;
     }
-    for ((name, number), count) in counts {
-        println!("{name}, {number}: {count}");
-    }
-    println!("cases: {}", calls.len());
+    counts
 }
 
 /// A call's name.
@@ -110,5 +153,7 @@ fn name(call: &Call) -> &'static str {
         Call::Product(_) => "product",
         Call::Write(_) => "write",
         Call::Read(_) => "read",
+        Call::Signed(_) => "signed reading",
+        Call::Back(_) => "way back",
     }
 }

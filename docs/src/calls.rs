@@ -2,26 +2,34 @@
 //!
 //! A case is 18 words, three lists of words, and a list of bytes:
 //!
-//!   0       the call: 1 share of A, 2 share of B, 3 product, 4 write a message, 5 read a message
+//!   0       the call: 1 share of A, 2 share of B, 3 product, 4 write a message, 5 read a message,
+//!           6 signed reading, 7 its way back
 //!   1..=12  the call's numbers, unused ones 0
-//!             share    modulus number, t, s, r, m, p, n, X_A, X_B, N, job number, host
-//!             product  modulus number, rows, inner, columns
-//!             write    kind, modulus number, host, rows, columns, job number
+//!             share           modulus number, t, s, r, m, p, n, X_A, X_B, N, job number, host
+//!             product         modulus number, rows, inner, columns
+//!             write           kind, modulus number, host, rows, columns, job number
+//!             signed reading  modulus number, element
+//!             way back        modulus number, value: the high word and the low one
 //!   13      length of list 1: a share's points
 //!   14      length of list 2: a share's matrix, a product's a, the elements to write
 //!   15      length of list 3: a share's masks, a product's b
 //!   16      length of the list of bytes: the message to read
 //!   17      length of the output: in bytes for a message to write, else in elements
 //!
+//! A signed value has 64 bits in two's complement, and goes as two words, the high one first.
+//!
 //! An answer is the refusal number, 0 for a call that was done; then, of a message that was read,
-//! kind, modulus number, host, rows, columns and job number; then the output after the call. Before
+//! kind, modulus number, host, rows, columns and job number, of an element that was read its signed
+//! value in two words, and of a value taken back its element; then the output after the call. Before
 //! it every byte of the output is A5 hex. Of the output the part up to the last element that is not
 //! A5A5A5A5 hex is told (for a message to write: the last byte that is not A5): a word with its
-//! length, then the elements as words, or the bytes.
+//! length, then the elements as words, or the bytes. Signed reading and its way back have an output
+//! of length 0.
 
 use crate::message::{read, write, Fields, Reading, Writing};
 use crate::product::{product, Multiplying};
 use crate::share::{share, Sharing, Side};
+use crate::signed::{signed_reading, way_back, SignedReading, WayBack};
 
 /// What every byte of the output is before a call.
 const FILLING: u8 = 0xA5;
@@ -33,6 +41,8 @@ pub enum Call {
     Product(Multiplying),
     Write(Writing),
     Read(Reading),
+    Signed(SignedReading),
+    Back(WayBack),
 }
 
 /// A case before it is made into bytes.
@@ -51,6 +61,11 @@ pub fn case(call: &Call) -> Vec<u8> {
         Call::Product(call) => product_case(call),
         Call::Write(call) => write_case(call),
         Call::Read(call) => read_case(call),
+        Call::Signed(call) => numbers_case(6, vec![call.modulus, call.element]),
+        Call::Back(call) => {
+            let [high, low] = signed_words(call.value);
+            numbers_case(7, vec![call.modulus, high, low])
+        }
     })
 }
 
@@ -98,6 +113,22 @@ fn read_case(call: &Reading) -> Case<'_> {
     }
 }
 
+/// The case of a call that has numbers alone.
+fn numbers_case<'a>(call: u32, numbers: Vec<u32>) -> Case<'a> {
+    Case {
+        call,
+        numbers,
+        lists: [&[]; 3],
+        message: &[],
+        room: 0,
+    }
+}
+
+/// The high and the low word of a signed value.
+fn signed_words(value: i64) -> [u32; 2] {
+    [(value >> 32) as u32, value as u32]
+}
+
 /// A message's fields in the order in which they are written.
 fn field_words(fields: &Fields) -> [u32; 6] {
     [
@@ -139,6 +170,8 @@ pub fn number(call: &Call) -> u32 {
         Call::Product(call) => product(call).err(),
         Call::Write(call) => write(call).err(),
         Call::Read(call) => read(call).err(),
+        Call::Signed(call) => signed_reading(call).err(),
+        Call::Back(call) => way_back(call).err(),
     };
     refused.unwrap_or(0)
 }
@@ -151,6 +184,8 @@ pub fn answer(call: &Call) -> Vec<u8> {
         Call::Product(call) => elements_told(&product(call).unwrap_or_default(), call.room),
         Call::Write(call) => bytes_told(&write(call).unwrap_or_default(), call.room),
         Call::Read(call) => reading_told(call),
+        Call::Signed(call) => value_told(signed_reading(call).map(signed_words)),
+        Call::Back(call) => value_told(way_back(call).map(|element| [element])),
     });
     bytes
 }
@@ -165,6 +200,13 @@ fn reading_told(call: &Reading) -> Vec<u8> {
         }
         Err(_) => elements_told(&[], call.room),
     }
+}
+
+/// The words of a value, of a refused call none; then an output of length 0.
+fn value_told<const N: usize>(value: Result<[u32; N], u32>) -> Vec<u8> {
+    let mut bytes = value.map_or(Vec::new(), |value| words(&value));
+    bytes.extend(elements_told(&[], 0));
+    bytes
 }
 
 /// The output after a call that wrote these elements.

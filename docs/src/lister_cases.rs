@@ -1,8 +1,7 @@
 //! The subcommand `lister`: gathers the lister's cases, checks them, writes them with the answers.
 
-use std::collections::BTreeMap;
-
 use crate::cases::{distinct, framed, save};
+use crate::counts::{hold, Counts, Floors};
 use crate::lister::{answer, parse, refused, text};
 use crate::random::Random;
 use crate::{lister_plans, lister_texts, plan_check};
@@ -10,6 +9,16 @@ use crate::{lister_plans, lister_texts, plan_check};
 /// The answer to the sheet's example, as the sheet has it.
 const EXAMPLE_ANSWER: &str = "MODULUS 257\nLAYOUT 1\nHOSTS 20\nNEEDED 17\n\
     A 0 1 6 7 | 10 11\nB 1 3 0 2 | 4 5\nC 1 3 7 9\n";
+
+/// The numbers that the lister can give, with the least count of cases.
+#[rustfmt::skip]
+const FLOORS: &Floors = &[
+    ("layout 1", &[(0, 137)]),
+    ("layout 2", &[(0, 79)]),
+    ("refused", &[
+        (1, 42), (2, 41), (3, 38), (4, 28), (5, 30), (6, 32), (7, 27), (8, 35), (26, 180),
+    ]),
+];
 
 /// Checks the program, then writes the cases to one file and the answers to the other.
 pub fn write(stdin_file: &str, stdout_file: &str) {
@@ -20,9 +29,9 @@ pub fn write(stdin_file: &str, stdout_file: &str) {
     inputs.iter().for_each(|input| reads_back(input));
     let file = framed(&inputs);
     assert!(file.len() < 60_000 && inputs.iter().all(|input| input.len() < 200));
+    hold(&counted(&answers), FLOORS);
     save(stdin_file, &file);
     save(stdout_file, answers.concat().as_bytes());
-    report(&answers);
 }
 
 /// All inputs, each once.
@@ -43,7 +52,7 @@ fn expected_plans() -> Vec<Vec<u8>> {
     let mut inputs = Vec::new();
     for (line, number) in lister_plans::expected() {
         let input = text(&line);
-        assert_eq!(kind(&answer(&input)).0, number, "{line:?}");
+        assert_eq!(kind(&answer(&input)).1, number, "{line:?}");
         inputs.push(input);
     }
     inputs
@@ -66,26 +75,24 @@ fn reads_back(input: &[u8]) {
     }
 }
 
-/// The kind of an answer: its refusal number and 0, or 0 and its layout.
-fn kind(answer: &str) -> (u32, u32) {
+/// The kind of an answer: its layout and 0, or its refusal number.
+fn kind(answer: &str) -> (&'static str, u32) {
     let value = |label: &str| {
         let line = answer.lines().find_map(|line| line.strip_prefix(label));
         line.map_or(0, |digits| digits.parse().expect("an answer's number"))
     };
-    (value("REFUSED "), value("LAYOUT "))
+    match value("LAYOUT ") {
+        1 => ("layout 1", 0),
+        2 => ("layout 2", 0),
+        _ => ("refused", value("REFUSED ")),
+    }
 }
 
-/// Prints how many cases there are of each answer kind.
-fn report(answers: &[String]) {
-    let mut counts: BTreeMap<(u32, u32), u32> = BTreeMap::new();
+/// How many cases there are of each kind of answer.
+fn counted(answers: &[String]) -> Counts {
+    let mut counts = Counts::new();
     for answer in answers {
         *counts.entry(kind(answer)).or_default() += 1;
     }
-    for ((number, layout), count) in counts {
-        match number {
-            0 => println!("layout {layout}: {count}"),
-            _ => println!("refused {number}: {count}"),
-        }
-    }
-    println!("cases: {}", answers.len());
+    counts
 }

@@ -7,6 +7,7 @@
 //!   plan            the tests of a plan, both layouts, the recovery threshold K, the choice
 //!   plan_check      the plan against brute force and against the values checked by hand
 //!   draw            random plans
+//!   counts          how many cases there are of each kind, held to floors
 //!
 //!   lister          the plan lister's text in and out
 //!   lister_plans    lister cases that are well-formed: accepted plans and near misses
@@ -17,11 +18,13 @@
 //!   share           the shares of A and of B
 //!   product         a host's product
 //!   message         messages, written and read
+//!   signed          signed reading and its way back
 //!   faults          calls with faults put in, one or two at once
 //!   share_calls     cases of shares
 //!   product_calls   cases of products
 //!   message_calls   cases of messages to write, and of fit ones to read
 //!   message_damage  cases of damaged messages to read
+//!   signed_calls    cases of signed reading and of its way back
 //!   calls           the file format of the calls' cases and answers
 //!   call_cases      the subcommand `calls`: all their cases, checked and written
 //!
@@ -53,6 +56,7 @@ mod arrival_calls;
 mod call_cases;
 mod calls;
 mod cases;
+mod counts;
 mod decode;
 mod decode_calls;
 mod draw;
@@ -78,6 +82,8 @@ mod product_calls;
 mod random;
 mod share;
 mod share_calls;
+mod signed;
+mod signed_calls;
 mod story;
 mod text_cases;
 mod text_faults;

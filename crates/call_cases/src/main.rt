@@ -1,5 +1,5 @@
-// Runs shares, products and messages on many inputs: cases come from standard input, one after another, and their answers go
-// to standard output. The cases and the answers are those of the separate Rust program in docs/src, whose file calls.rs tells
+// Runs shares, products, messages and signed reading on many inputs: cases come from standard input, one after another, and
+// their answers go to standard output. The cases and the answers are those of the separate Rust program in docs/src, whose file calls.rs tells
 // the format of both.
 ghost use mathlib.Core.Path.{_≡_};
 ghost use Prim.Native.Nat.{_≤_};
@@ -9,6 +9,8 @@ use header::Header;
 use header::Reading;
 use libc::STDOUT_FILENO;
 use plan::Job;
+use signed::Element;
+use signed::Signed;
 use weights::Matrix;
 
 // Where the lists of a case end, one after another.
@@ -33,6 +35,11 @@ const HEAD_WORDS: usize = 18;
 
 // The program ends, however long its input is.
 const MOST_CASES: u32 = 1000000;
+
+// A word more than a word holds, and the most that a signed number of 64 bits holds.
+const WORD: u64 = 0x1_0000_0000;
+
+const MOST_SIGNED: u64 = 0x7FFF_FFFF_FFFF_FFFF;
 
 // The ends of lists of these lengths.
 fn ends_of(points: u32, xs: u32, ys: u32) -> Ends
@@ -136,6 +143,47 @@ fn put_reading(reading: Reading) {
     }
 }
 
+// The signed value of two words: a number below 2^63, or one with every bit turned.
+fn signed_value(high: u32, low: u32) -> i64 {
+    let bits = high as u64 * WORD + low as u64;
+    if bits <= MOST_SIGNED {
+        return bits as i64;
+    }
+    !(!bits as i64)
+}
+
+// The bits of a signed value.
+fn bits_of(value: i64) -> u64 {
+    if value < 0 {
+        return !(!value as u64);
+    }
+    value as u64
+}
+
+// Writes what signed reading answers: 0 and the two words of the value, or the refusal number.
+fn put_signed(answer: Signed) {
+    match answer {
+        Signed::Refused(number) => case_io::put_number(number),
+        Signed::Value(value) => {
+            let bits = bits_of(value);
+            case_io::put_words(&[0, (bits / WORD) as u32, (bits % WORD) as u32]);
+        }
+    }
+}
+
+// Writes what the way back answers: 0 and the element, or the refusal number.
+fn put_element(answer: Element) {
+    match answer {
+        Element::Refused(number) => case_io::put_number(number),
+        Element::Value(v) => case_io::put_words(&[0, v]),
+    }
+}
+
+// Takes a signed value back to its element.
+fn run_way_back(head: [u32; HEAD_WORDS]) -> Element {
+    signed::element_of(head[1], signed_value(head[2], head[3]))
+}
+
 // Makes a call with an output of elements, and writes what it returns; false where there is no such call.
 fn run_call(
     head: [u32; HEAD_WORDS],
@@ -151,6 +199,8 @@ fn run_call(
         2 => case_io::put_number(run_share(Matrix::B, head, points, xs, ys, out)),
         3 => case_io::put_number(run_product(head, xs, ys, out)),
         5 => put_reading(message::read_message(message, out)),
+        6 => put_signed(signed::signed_reading(head[1], head[2])),
+        7 => put_element(run_way_back(head)),
         _ => return false,
     }
     true
