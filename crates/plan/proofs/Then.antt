@@ -10,11 +10,14 @@ use mathlib.Core.List.{List, _++_}
 use Prim.Native.Nat.{ℕ, zero, suc}
 use native.Mathlib.Nat.{suc-ne-zero}
 use lib.Dec.{T}
-use Rattle.refusal.specs.Chain.{Row, first, answer, outside}
+use Rattle.refusal.specs.Chain.{Row, first, answer}
 use Rattle.refusal.proofs.Chains.{first-append, first-append-hit, numbered}
-use Rattle.field.specs.Modulus.{moduli, modulus, noModulus, named}
+use Rattle.field.specs.declared.Named.{Named}
+use Rattle.field.specs.declared.Named.the-variants.{Is, Unknown}
+use Rattle.field.specs.Modulus.{modulus, noModulus, named}
 use Rattle.field.specs.Modulus.{prime as Modulus·prime}
 use Rattle.field.proofs.Moduli.{none-named}
+use Rattle.field.proofs.Moduli.{known as Moduli·known}
 use Rattle.plan.specs.declared.Job.{Job}
 use Rattle.plan.specs.declared.Planned.the-variants.{Accepted, Refused}
 use Rattle.plan.specs.Planning.{prime, known, modulusOf, planOf, rangeTests, fitTests, pointTests, planTests, planned}
@@ -40,12 +43,9 @@ module _ (job : Job) (points : List ℕ) (rows : List Row) where
   then-own e = first-append (planTests job points) rows (plan-numbered job points) e
 
 pub own-prime : (job : Job) → noModulus (job .modulus) ≡ false → Modulus·prime (modulusOf job) ≡ prime job
-unfolding modulusOf prime named modulus moduli noModulus outside
-own-prime job e = go (job .modulus) e
+unfolding modulusOf prime
+own-prime job e = go (named (job .modulus)) refl
   where
-    go : (n : ℕ) → noModulus n ≡ false → Modulus·prime (known (named n)) ≡ modulus n
-    go zero e = absurd (true≢false e)
-    go (suc zero) e = refl
-    go (suc (suc zero)) e = refl
-    go (suc (suc (suc zero))) e = refl
-    go (suc (suc (suc (suc n)))) e = absurd (true≢false (sym (none-named (suc (suc (suc (suc n)))) refl) ∙ e))
+    go : (x : Named) → named (job .modulus) ≡ x → Modulus·prime (known x) ≡ modulus (job .modulus)
+    go (Is m) is = sym (Moduli·known (job .modulus) is refl .is)
+    go Unknown is = absurd (true≢false (sym (none-named (job .modulus) is) ∙ e))

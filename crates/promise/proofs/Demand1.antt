@@ -29,6 +29,9 @@ use Rattle.heard.specs.Heard.{withPlace}
 use Rattle.arrival.specs.Arriving.{place, stateTests, arrivalTests, arrived, storeAfter, heardAfter}
 use Rattle.arrival.specs.Arriving.{ownTests as Arriving·ownTests, numberOf as Arriving·numberOf}
 use Rattle.decode.specs.Decoding.{decodeTests, tableAfter}
+use Rattle.field.proofs.Moduli.{told-named}
+use Rattle.signed.specs.Signed.{signedTests, elementTests}
+use Rattle.signed.proofs.Answers.{signed-told, element-told}
 use Rattle.promise.specs.Demand1.{row, Judged, Leaves, Tells, Demand1}
 
 pub judged : (rows : List Row) → T (numbered rows) → Judged rows (first rows)
@@ -95,7 +98,7 @@ after-plan : (job : Job) (points : List ℕ) (rows : List Row) → T (numbered r
 after-plan job points rows t = judged _ (numbered-append (planTests job points) rows (plan-numbered job points) t)
 
 pub demand-1 : Demand1
-unfolding shareTests ownTests shareAfter productTests productAfter hostTests hostAfter fieldTests writeTests messageTests headerTests readTests written readInto stateTests Arriving·ownTests arrivalTests storeAfter decodeTests tableAfter numbered
+unfolding shareTests ownTests shareAfter productTests productAfter hostTests hostAfter fieldTests writeTests messageTests headerTests readTests written readInto stateTests Arriving·ownTests arrivalTests storeAfter decodeTests tableAfter signedTests elementTests numbered
 demand-1 = record {
   plan = λ job points. tells (planTests job points) _ (plan-numbered job points) (plan-told job points);
   share = λ m job points host xs ms out. (after-plan job points _ tt, leaves _ _ _ refl);
@@ -113,4 +116,7 @@ demand-1 = record {
         heard-kept job points heard store message,
       );
   decode = λ job points heard store table. (after-plan job points _ tt, leaves _ _ _ refl);
+  signed-reading = λ n v. tells _ _ tt (signed-told n v);
+  way-back = λ n z. tells _ _ tt (element-told n z);
+  naming = λ n. tells _ _ tt (told-named n);
 }

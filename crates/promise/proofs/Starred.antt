@@ -31,8 +31,8 @@ use Rattle.algebra.specs.Polynomials.{scale, add, addRoot, basis, coefficient}
 use Rattle.heard.specs.Heard.{isHeard, someAbove, lowest}
 use Rattle.arrival.specs.Arriving.{answerLength, storeLength, blockAt}
 use Rattle.decode.specs.Decoding.{answerEntry, chosen, tableEntry, blocks, tableOf, tableLength, heardBelow, decodeTests, tableAfter}
-use Rattle.signed.specs.Signed.{half, signed, signedTests, signedAnswer}
-use Rattle.promise.specs.Starred.{Line, Right, starred, plan, thresholds, smallest, share, decoded, reading, jobWith}
+use Rattle.signed.specs.Signed.{half, signed, signedTests, signedAnswer, signedTold}
+use Rattle.promise.specs.Starred.{Line, Right, starred, plan, thresholds, smallest, share, decoded, signs, reading, jobWith}
 use Rattle.promise.specs.Starred.{answer as Starred·answer}
 
 same : List ℕ → List ℕ → Bool
@@ -61,7 +61,7 @@ all-right (l ∷ ls) t (suc i) h = all-right ls (and-right (same (l .0) (l .1)) 
 
 -- the planning definitions, opened to compute
 computed : T (right starred)
-unfolding right same starred plan thresholds smallest jobWith tab first answer outside anyOutside sizesOutside overBlock moduli modulus noModulus named exponents layout1 layout2 strideD strideE better choice parameters prime modulusOf blockRows blockInner blockColumns layoutOf neededOf planOf sizeTest cutTest groupTest divisionTest blockTest hostsTest neededTest rangeTests fitTests member pointRows pointsRows pointTests planTests planned sum grid entry allBelow term productEntry productOf lengthTest productTests productAfter side blockEntry maskEntry shareEntry shareOf point hostShare blockLength matrixLength maskLength Encoding·lengthTest ownTests shareTests shareAfter share Starred·answer decoded reading stack members basis scale add addRoot coefficient inverse last ones onesIn isHeard someAbove lowest answerLength storeLength blockAt answerEntry chosen tableEntry blocks tableOf tableLength heardBelow decodeTests tableAfter half signed signedTests signedAnswer
+unfolding right same starred plan thresholds smallest jobWith tab first answer outside anyOutside sizesOutside overBlock moduli modulus noModulus named exponents layout1 layout2 strideD strideE better choice parameters prime modulusOf blockRows blockInner blockColumns layoutOf neededOf planOf sizeTest cutTest groupTest divisionTest blockTest hostsTest neededTest rangeTests fitTests member pointRows pointsRows pointTests planTests planned sum grid entry allBelow term productEntry productOf lengthTest productTests productAfter side blockEntry maskEntry shareEntry shareOf point hostShare blockLength matrixLength maskLength Encoding·lengthTest ownTests shareTests shareAfter share Starred·answer decoded signs reading stack members basis scale add addRoot coefficient inverse last ones onesIn isHeard someAbove lowest answerLength storeLength blockAt answerEntry chosen tableEntry blocks tableOf tableLength heardBelow decodeTests tableAfter half signed signedTests signedAnswer signedTold
 computed = tt
 
 pub starred-right : Right starred

@@ -15,8 +15,8 @@ use Rattle.algebra.proofs.Sums.{sum-bound}
 use Rattle.plan.specs.Planning.{prime}
 use Rattle.plan.proofs.Facts.{Fits, facts}
 use Rattle.product.specs.Product.{productEntry, productOf}
-use Rattle.signed.specs.Signed.{signed, Exact}
-use Rattle.signed.proofs.Exactness.{exact}
+use Rattle.signed.specs.Signed.{signedAnswer, signedTold, Exact}
+use Rattle.signed.proofs.Exactness.{exact-reading}
 use Rattle.promise.specs.Demand3.{Task, Accepted}
 use Rattle.promise.specs.WholeNumbers.{exactEntry, WholeNumbers}
 
@@ -25,7 +25,7 @@ module _ (x : Task) (ok : Accepted x) where
   fits = facts (x .numbers) (x .points) (ok .planned) .fits
 
   holds : Exact (prime (x .numbers))
-  holds = exact (prime (x .numbers)) (fits .known .is-prime .above-one)
+  holds = exact-reading .exact (prime (x .numbers)) (fits .known .is-prime .above-one)
 
   product : List ℕ
   product = productOf (prime (x .numbers)) (x .numbers .t) (x .numbers .s) (x .numbers .r) (x .a) (x .b)
@@ -47,9 +47,11 @@ module _ (x : Task) (ok : Accepted x) where
       omega (arith, e, each, fits .ranged .s .high)
 
   pub whole-numbers : WholeNumbers x (productOf (prime (x .numbers)) (x .numbers .t) (x .numbers .s) (x .numbers .r) (x .a) (x .b))
-  unfolding product exactEntry productEntry
+  unfolding product exactEntry productEntry prime
   whole-numbers = record {
-    reads = λ how range u v a b. ap (λ (z : ℕ). signed (prime (x .numbers)) z) (entry-is u v a b) ∙ holds .reads how (x .numbers .s) _ _ (range u v a b);
+    reads = λ how range u v a b.
+        ap (λ (z : ℕ). signedTold (signedAnswer (x .numbers .modulus) z)) (entry-is u v a b)
+        ∙ exact-reading .reads (x .numbers .modulus) (fits .known .is-number) how (x .numbers .s) _ _ (range u v a b);
     stands = λ how range u v a b.
         let k = range u v a b in
         ap pos (entry-is u v a b ∙ holds .stands how (x .numbers .s) _ _ (k .0) (k .1) (k .2)) ∙ sym (k .2);

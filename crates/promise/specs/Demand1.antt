@@ -11,11 +11,13 @@
 use mathlib.Core.Path.{_≡_}
 use mathlib.Core.Bool.{true, false}
 use mathlib.Core.Logic.{_↔_}
-use mathlib.Core.List.{List, [], _++_}
+use mathlib.Core.List.{List, [], _∷_, _++_}
 use Prim.Native.Nat.{ℕ, _<_}
+use lib.IntN.{ℤ}
 use lib.ListN.{length, getD, drop}
 use Rattle.refusal.specs.Chain.{Row, first, Told}
-use Rattle.field.specs.Modulus.{modulus}
+use Rattle.field.specs.Modulus.{modulus, noModulus, named}
+use Rattle.field.specs.Modulus.{told as Modulus·told}
 use Rattle.plan.specs.declared.Job.{Job}
 use Rattle.plan.specs.Planning.{planTests, planned, planValues}
 use Rattle.plan.specs.Planning.{told as Planning·told}
@@ -31,6 +33,7 @@ use Rattle.heard.specs.Heard.{withPlace}
 use Rattle.arrival.specs.Arriving.{answerLength, withBlock, place, arrivalTests, arrived, storeAfter, heardAfter}
 use Rattle.arrival.specs.Arriving.{numberOf as Arriving·numberOf}
 use Rattle.decode.specs.Decoding.{tableOf, decodeTests, tableAfter}
+use Rattle.signed.specs.Signed.{signed, element, signedTests, elementTests, signedAnswer, elementAnswer, signedTold, elementTold}
 
 -- the row at i; there is none past the end
 abbrev pub row : List Row → ℕ → Row
@@ -79,3 +82,7 @@ pub record Demand1 : Type 0 where
   pub decode : (job : Job) (points : List ℕ) (heard : ℕ) (store table : List ℕ)
       → Judged (decodeTests job points heard store (length table)) (first (decodeTests job points heard store (length table)))
       × Leaves (first (decodeTests job points heard store (length table))) (tableAfter job points heard store table) (tableOf job points heard store) table
+  -- Calls that the demand does not name. Signed reading and its way back; a modulus number names its modulus.
+  pub signed-reading : (n v : ℕ) → Tells (signedTests n v) (signedTold (signedAnswer n v)) (signed (modulus n) v ∷ [])
+  pub way-back : (n : ℕ) (z : ℤ) → Tells (elementTests n z) (elementTold (elementAnswer n z)) (element (modulus n) z ∷ [])
+  pub naming : (n : ℕ) → Tells ((noModulus n, 1) ∷ []) (Modulus·told (named n)) (n ∷ [])

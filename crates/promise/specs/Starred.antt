@@ -9,13 +9,14 @@
 --                     element y; 99 stands in the output before, and would stay there if the call were refused
 --   answer i       == what the product leaves for host i, with A 5, its mask 7, B 4 and its mask 9
 --   decoded        == what decoding these answers leaves
---   reading r      == a signed reading in whole numbers: its refusal number, and of a value 1 where it is below 0, and its size
+--   signs zs       == whole numbers by sign and size
+--   reading r      == what signed reading tells on paper: its number, and of a value sign and size
 --   starred        == the table
 --   Right lines    == in each line the two are the same
 use mathlib.Core.Path.{_≡_}
 use mathlib.Core.List.{List, [], _∷_, _++_}
 use Prim.Native.Nat.{ℕ, suc, _<_}
-use lib.IntN.{pos, negsuc}
+use lib.IntN.{ℤ, pos, negsuc}
 use lib.ListN.{length, getD}
 use Rattle.algebra.specs.Lists.{tab}
 use Rattle.layout.specs.declared.Layout.the-variants.{First, Second}
@@ -28,7 +29,7 @@ use Rattle.weights.specs.declared.Matrix.the-variants.{A, B}
 use Rattle.share.specs.Sharing.{shareAfter}
 use Rattle.decode.specs.Decoding.{tableAfter}
 use Rattle.signed.specs.declared.Signed.{Signed}
-use Rattle.signed.specs.Signed.{signedAnswer}
+use Rattle.signed.specs.Signed.{signedAnswer, signedTold}
 
 abbrev pub Line : Type 0
 Line = List ℕ × List ℕ
@@ -53,10 +54,14 @@ answer host = productAfter 1 1 1 1 (share A 5 7 host) (share B 4 9 host) (99 ∷
 unfoldable pub decoded : List ℕ
 decoded = tableAfter smallest (tab suc 3) 7 (answer 1 ++ (answer 2 ++ answer 3)) (99 ∷ [])
 
+-- 1 where a whole number is below 0, and its size
+unfoldable pub signs : List ℤ → List ℕ
+signs [] = []
+signs (pos n ∷ zs) = 0 ∷ n ∷ signs zs
+signs (negsuc n ∷ zs) = 1 ∷ suc n ∷ signs zs
+
 unfoldable pub reading : Signed → List ℕ
-reading (Signed.Value (pos n)) = 0 ∷ 0 ∷ n ∷ []
-reading (Signed.Value (negsuc n)) = 0 ∷ 1 ∷ suc n ∷ []
-reading (Signed.Refused n) = n ∷ []
+reading r = let t = signedTold r in t .number ∷ signs (t .values)
 
 unfoldable pub jobWith : ℕ → ℕ → ℕ → ℕ → ℕ → ℕ → Job
 jobWith p m n xa xb hosts =

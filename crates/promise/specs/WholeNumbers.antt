@@ -6,16 +6,17 @@
 --   DecodedNumbers         == the table that a decoding makes from true products tells this
 use mathlib.Core.Path.{_≡_}
 use mathlib.Core.Bool.{true}
-use mathlib.Core.List.{List, _∷_, _++_}
+use mathlib.Core.List.{List, [], _∷_, _++_}
 use Prim.Native.Nat.{ℕ, suc, _<_, _≤_}
 use lib.IntN.{ℤ, pos}
 use lib.ListN.{length, getD}
 use Rattle.algebra.specs.Lists.{entry, AllBelow}
 use Rattle.algebra.specs.Sets.{size}
+use Rattle.refusal.specs.Chain.{done}
 use Rattle.plan.specs.Planning.{prime, neededOf}
 use Rattle.weights.specs.declared.Matrix.the-variants.{A, B}
 use Rattle.product.specs.Product.{productEntry}
-use Rattle.signed.specs.Signed.{signed, inRange, Taking, taken, dot}
+use Rattle.signed.specs.Signed.{inRange, signedAnswer, signedTold, Taking, taken, dot}
 use Rattle.arrival.specs.Arriving.{storeLength}
 use Rattle.decode.specs.Decoding.{tableLength}
 use Rattle.promise.specs.Demand3.{Task, Accepted, Masks, trueProduct, Call, decoding, begin, replies, unanswered, hasFit, firstFit}
@@ -25,11 +26,12 @@ exactEntry how x u v =
     dot (taken (prime (x .numbers)) how) (x .numbers .s) (λ l. entry (x .numbers .s) (x .a) u l) (λ l. entry (x .numbers .r) (x .b) l v)
 
 pub record WholeNumbers (x : Task) (table : List ℕ) : Type 0 where
-  -- "if each exact whole-number entry of AB lies in that range, the signed reading of the decoded table is exact"
+  -- "if each exact whole-number entry of AB lies in that range, the signed reading of the decoded table is exact": the call
+  -- answers with that entry, so it is not refused
   pub reads : (how : Taking)
       → ((u v : ℕ) → u < x .numbers .t → v < x .numbers .r → inRange (prime (x .numbers)) (exactEntry how x u v) ≡ true)
       → (u v : ℕ) → u < x .numbers .t → v < x .numbers .r
-      → signed (prime (x .numbers)) (entry (x .numbers .r) table u v) ≡ exactEntry how x u v
+      → signedTold (signedAnswer (x .numbers .modulus) (entry (x .numbers .r) table u v)) ≡ done (exactEntry how x u v ∷ [])
   -- "if each lies in 0..q-1, the elements are"
   pub stands : (how : Taking)
       → ((u v : ℕ) → u < x .numbers .t → v < x .numbers .r → (k : ℕ) × (k < prime (x .numbers)) × (exactEntry how x u v ≡ pos k))
