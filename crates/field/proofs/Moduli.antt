@@ -16,7 +16,7 @@
 --   none-named        a number that names no modulus is no modulus number
 --   not-named         and what is no modulus number names none
 --   told-named        what a modulus number names, as refusal 1 tells it
-use mathlib.Core.Path.{_≡_, refl, sym, ap, _∙_, subst}
+use mathlib.Core.Path.{_≡_, refl, sym, _∙_, subst}
 use mathlib.Core.Bool.{Bool, true, false, cond, _&&_, true≢false}
 use mathlib.Core.List.{List, [], _∷_}
 use Prim.Native.Nat.{ℕ, zero, suc, _*_, _%_, _^_, _<_}
