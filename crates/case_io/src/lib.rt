@@ -1,6 +1,7 @@
 // Words and bytes of cases, from standard input and to standard output. A word is 4 bytes, big-endian.
 ghost use mathlib.Core.Path.{_≡_};
-ghost use lib.ListN.{length};
+ghost use Prim.Native.Nat.{_≤_};
+ghost use lib.ListN.{length, drop};
 ghost use Rattle.io.specs.Counts.{Counts};
 use libc::STDIN_FILENO;
 use libc::STDOUT_FILENO;
@@ -23,17 +24,23 @@ fn zero_bytes() -> [u8; MOST_BYTES]
     [0; MOST_BYTES]
 }
 
-// Reads that many bytes to the front of the buffer, or as many as it has room for and the input has; tells how many.
+// Reads that many bytes to the front of the buffer, or as many as it has room for and the input has; tells how many. Past the
+// count that is asked for the buffer stays as it was; where the input ends before, nothing is said of the bytes up to there.
 pub fn read_bytes(count: usize, out: &mut [u8]) -> usize
-    ensures { λ r. ⌜ Counts r (now (out .exit)) ⌝ }
+    ensures told { λ r. ⌜ Counts r (now (out .exit)) ⌝ }
+    ensures most { λ r. ⌜ r ≤ count ⌝ }
+    ensures rest { λ _. ⌜ drop count (now (out .exit)) ≡ drop count (now (out .entry)) ⌝ }
 {
     let n = least(count, out.len());
     io::read_full(STDIN_FILENO, &mut out[..n])
 }
 
-// Reads words in the same way, at most 32896.
+// Reads words in the same way, at most 32896; a part of a word at the end of the input is left out. Past those that it tells
+// the buffer stays as it was.
 pub fn read_words(count: usize, out: &mut [u32]) -> usize
-    ensures { λ r. ⌜ Counts r (now (out .exit)) ⌝ }
+    ensures told { λ r. ⌜ Counts r (now (out .exit)) ⌝ }
+    ensures most { λ r. ⌜ r ≤ count ⌝ }
+    ensures rest { λ r. ⌜ drop r (now (out .exit)) ≡ drop r (now (out .entry)) ⌝ }
 {
     let mut bytes = zero_bytes();
     let most = least(least(count, out.len()), MOST_READ);

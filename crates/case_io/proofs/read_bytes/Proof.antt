@@ -1,8 +1,10 @@
 -- `case_io::read_bytes` meets its contract.
 use lib.Seq.{length-take-le}
 use mathlib.Core.Path.{sym}
+use Prim.Native.Nat.{_≤_}
+use native.Mathlib.Omega.{arith}
 use borrow.Author.Needs.{needs}
-use Rattle.case_io.proofs.Counts.{counts-front}
+use Rattle.case_io.proofs.Counts.{counts-front, rest-kept}
 use Rattle.case_io.proofs.read_bytes.Statement.{statement}
 use Rattle.case_io.proofs.read_bytes.Tie as tie
 
@@ -23,8 +25,16 @@ same-length c = search needs
 
 returns : tie.Need-returns
 returns c =
-    let call = c .before .before .read-full in
-    counts-front (call .result) (call .last .1 .0) _ (call .ensures .0)
+    let back = c .before in
+    let call = back .before .read-full in
+    let lent = back .before .before .before in
+    let n = lent .least .result in
+    let a = lent .before .before .args in
+    let few = slice-relend-prefix-read-full lent in
+    let size = back .out .given .0 in
+    let most : call .result ≤ a .count = omega (arith, call .ensures .0, size, length-take-le n (a .out .now) few, lent .least .ensures) in
+    let kept = rest-kept n (a .count) (call .last .1 .0) (a .out .now) few size (omega (arith, lent .least .ensures)) in
+    (counts-front (call .result) (call .last .1 .0) _ (call .ensures .0), (most, kept))
 
 pub read-bytes-spec : {M : Type 1} → statement M
 read-bytes-spec =

@@ -1,7 +1,7 @@
 -- `case_io::read_words` meets its contract.
+use lib.ListN.{take}
 use borrow.Author.Needs.{needs}
-use borrow.Author.Needs.{needs}
-use Rattle.case_io.proofs.Counts.{counts}
+use Rattle.case_io.proofs.Counts.{counts, words-kept}
 use Rattle.case_io.proofs.read_words.Statement.{statement}
 use Rattle.case_io.proofs.read_words.Tie as tie
 
@@ -39,7 +39,13 @@ same-length : tie.Need-same-length
 same-length c = search needs
 
 returns : tie.Need-returns
-returns c = counts _ _ (search needs)
+returns c =
+    let call = c .before .before .before in
+    let read = call .before .before .before .before .read-bytes in
+    let kept =
+    words-kept (c .least3 .result) (read .result) (take (read .result) (read .last .1 .0)) _ (call .read-elements .last .1 .0)
+    (read .ensures .0 .1) (call .read-elements .ensures) (same-length c) (c .least3 .ensures) in
+    (counts _ _ (search needs), (search needs, kept))
 
 pub read-words-spec : {M : Type 1} → statement M
 read-words-spec =
