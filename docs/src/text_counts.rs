@@ -79,7 +79,7 @@ fn one_section(random: &mut Random) -> Vec<Case> {
     cases
 }
 
-/// The text of these sections, with others numbers in one.
+/// The text of these sections, with other numbers in one.
 fn with(parts: &Parts, section: usize, numbers: Vec<u32>) -> Vec<u8> {
     let mut parts = parts.clone();
     parts[section] = numbers;

@@ -3,9 +3,9 @@
 //!
 //!   faults  all of them
 
-use crate::job_text::{tokens, Case};
+use crate::job_text::{sectioned, tokens, Case};
 use crate::text_forms::{bare, parts};
-use crate::text_sections::{Fault, Place};
+use crate::text_sections::{Fault, Place, WORDS};
 use crate::texts::{fault_line, MARK, MOST_TEXT};
 
 /// The line for a byte that is no number's.
@@ -34,7 +34,7 @@ pub fn faults() -> Vec<Case> {
 
 /// Short texts after the word JOB and a line feed, with the place of the fault as told by hand.
 fn told_faults() -> Vec<Case> {
-    let texts: [(&[u8], usize, usize); 24] = [
+    let texts: [(&[u8], usize, usize); 23] = [
         (b"-", 2, 1),
         (b" -1", 2, 2),
         (b"1 -2 3", 2, 3),
@@ -58,14 +58,10 @@ fn told_faults() -> Vec<Case> {
         (b"429496729x6", 2, 10),
         (b"1\x0b2", 2, 2),
         (b"1\x0c2", 2, 2),
-        (b"1 POINTS: 2", 2, 3),
     ];
     let cases = texts.map(|(text, line, column)| {
-        let due = match text {
-            b"1 POINTS: 2" => fault_line(Fault::NotTheWord(1), Place { line, column }),
-            _ => no_number(line, column),
-        };
-        ([b"JOB\n", text].concat(), due)
+        let text = [b"JOB\n", text].concat();
+        (text, no_number(line, column))
     });
     cases.to_vec()
 }
@@ -144,25 +140,21 @@ fn wrong_tokens() -> Vec<Case> {
     cases.collect()
 }
 
-/// A number that is too large by one, and one that is by far, in each section: as its first number,
-/// and after its last.
+/// A number that is too large by one, and one that is by far, in each section: after its word, and
+/// after its last number.
 fn large_in_each_section() -> Vec<Case> {
+    let text = sectioned(&parts());
+    let lines: Vec<&[u8]> = text.split(|&byte| byte == b'\n').collect();
     let mut cases = Vec::new();
-    for section in 0..7 {
-        for (digits, column) in [("4294967296", 10), ("00099999999999999999", 13)] {
-            let mut lines: Vec<Vec<u8>> = Vec::new();
-            for (i, word) in crate::text_sections::WORDS.iter().enumerate() {
-                let numbers = parts()[i].iter().map(u32::to_string).collect::<Vec<_>>();
-                lines.extend([word.as_bytes().to_vec(), numbers.join(" ").into_bytes()]);
+    for (section, word) in WORDS.iter().enumerate() {
+        for (digits, before) in [(" 4294967296", 10), (" 00099999999999999999", 13)] {
+            for at in [word.len(), lines[section].len()] {
+                let (front, back) = lines[section].split_at(at);
+                let line = [front, digits.as_bytes(), back].concat();
+                let mut lines = lines.clone();
+                lines[section] = &line;
+                cases.push((lines.join(&b'\n'), too_large(section + 1, at + 1 + before)));
             }
-            let numbers = 2 * section + 1;
-            let mut after = lines.clone();
-            let gap = [&lines[numbers][..], b" "].concat();
-            lines[numbers] = [digits.as_bytes(), b" ", &lines[numbers]].concat();
-            cases.push((lines.join(&b'\n'), too_large(numbers + 1, column)));
-            after[numbers] = [&gap[..], digits.as_bytes()].concat();
-            let due = too_large(numbers + 1, gap.len() + column);
-            cases.push((after.join(&b'\r'), due));
         }
     }
     cases

@@ -5,7 +5,7 @@
 use crate::job_text::{tokens, Case};
 use crate::text_forms::parts;
 use crate::text_sections::{Fault, Place, WORDS};
-use crate::texts::{fault_line, JOB_NUMBERS};
+use crate::texts::fault_line;
 
 /// Texts with a fault in a word.
 pub fn words() -> Vec<Case> {
@@ -36,7 +36,7 @@ fn lines(tokens: &[Vec<u8>]) -> Vec<u8> {
 
 /// Short texts, with the word that is expected and its place as told by hand.
 fn told() -> Vec<Case> {
-    let texts: [(&[u8], &str, usize, usize); 28] = [
+    let texts: [(&[u8], &str, usize, usize); 29] = [
         (b"", "the word JOB", 1, 1),
         (b"\n", "the word JOB", 2, 1),
         (b"\r", "the word JOB", 2, 1),
@@ -63,6 +63,7 @@ fn told() -> Vec<Case> {
         (b"JOB JOB", "the word POINTS", 1, 5),
         (b"JOB A -", "the word POINTS", 1, 5),
         (b"JOB 1\nPOINTS x", "the word A", 2, 8),
+        (b"JOB\n1 POINTS: 2", "the word POINTS", 2, 3),
         (b"JOB POINTS A B MASKS_A MASKS_B", "the word ANSWERS", 1, 31),
         (
             b"JOB POINTS A B MASKS_A MASKS_B ANSWERS _ JOB",
@@ -205,6 +206,5 @@ fn glued() -> Vec<Case> {
     let (mut tokens, places) = all();
     tokens[places[4]] = b"MASKS_AMASKS_B".to_vec();
     cases.push((lines(&tokens), expected(4, places[4] + 1)));
-    assert_eq!(places[1], JOB_NUMBERS + 1);
     cases
 }
