@@ -20,7 +20,7 @@ use plan::Planned;
 use printing::say;
 use printing::say_number;
 use printing::say_refused;
-use sections::part_of;
+use sections::numbers_of;
 use sections::say_count;
 use sharing::MOST_ELEMENTS;
 use sharing::area;
@@ -120,13 +120,23 @@ fn most(a: usize, b: usize) -> usize {
     if a <= b { b } else { a }
 }
 
-// How many elements the blocks of one kind for all hosts have, where these are largest. A table has no more.
-fn largest_blocks(job: Job, plan: Plan) -> usize {
+// The blocks of one kind for all hosts have too many elements for this program, which is printed. A table has no more.
+fn is_too_large(job: Job, plan: Plan) -> bool {
     let shares = most(
         block_size(plan.rows, plan.inner),
         block_size(plan.inner, plan.columns),
     );
-    blocks(job.hosts, most(shares, block_size(plan.rows, plan.columns)))
+    let size = most(shares, block_size(plan.rows, plan.columns));
+    let elements = blocks(job.hosts, size);
+    if elements <= MOST_ELEMENTS {
+        return false;
+    }
+    say_number(
+        b"JOB TOO LARGE: its blocks for all hosts have ",
+        elements as u64,
+    );
+    say(b" elements, at most 32768 fit\n");
+    true
 }
 
 // How many numbers one of the sections from A to B's masks needs.
@@ -140,10 +150,10 @@ fn needed_in(section: usize, job: Job, plan: Plan) -> usize {
 }
 
 // The sections from A to B's masks have as many numbers as they need; prints the first that has not.
-fn has_all(job: Job, plan: Plan, starts: &[usize; 8], lines: &[usize; 7]) -> bool {
+fn has_all(job: Job, plan: Plan, numbers: &[u32], starts: &[usize; 8], lines: &[usize; 7]) -> bool {
     let mut section = sections::A;
     while section <= sections::MASKS_B {
-        let has = sections::count_between(starts[section], starts[section + 1]);
+        let has = numbers_of(numbers, starts, section).len();
         let needs = needed_in(section, job, plan);
         if has != needs {
             say_count(section, has, needs, lines[section]);
@@ -156,6 +166,20 @@ fn has_all(job: Job, plan: Plan, starts: &[usize; 8], lines: &[usize; 7]) -> boo
 
 // ---- a job
 
+// Runs a job that is planned and has all its numbers.
+fn run_full(job: Job, plan: Plan, numbers: &[u32], starts: &[usize; 8]) {
+    run_with_matrices(
+        job,
+        plan,
+        numbers_of(numbers, starts, sections::POINTS),
+        numbers_of(numbers, starts, sections::A),
+        numbers_of(numbers, starts, sections::MASKS_A),
+        numbers_of(numbers, starts, sections::B),
+        numbers_of(numbers, starts, sections::MASKS_B),
+        numbers_of(numbers, starts, sections::ANSWERS),
+    );
+}
+
 // Runs a job that is planned, unless it is too large or a section has not its count. The front has the section JOB.
 fn run_planned(
     job: Job,
@@ -167,30 +191,14 @@ fn run_planned(
 )
     requires { ⌜ 10 ≤ length (now front) ⌝ }
 {
-    let elements = largest_blocks(job, plan);
-    if MOST_ELEMENTS < elements {
-        say_number(
-            b"JOB TOO LARGE: its blocks for all hosts have ",
-            elements as u64,
-        );
-        say_number(b" elements, at most ", MOST_ELEMENTS as u64);
-        say(b" fit\n");
+    if is_too_large(job, plan) {
         return;
     }
-    if !has_all(job, plan, starts, lines) {
+    if !has_all(job, plan, numbers, starts, lines) {
         return;
     }
     listing::say_plan(front);
-    run_with_matrices(
-        job,
-        plan,
-        part_of(numbers, starts[1], starts[2]),
-        part_of(numbers, starts[2], starts[3]),
-        part_of(numbers, starts[4], starts[5]),
-        part_of(numbers, starts[3], starts[4]),
-        part_of(numbers, starts[5], starts[6]),
-        part_of(numbers, starts[6], starts[7]),
-    );
+    run_full(job, plan, numbers, starts);
 }
 
 // The job of the numbers at the front.
@@ -215,12 +223,12 @@ fn job_of(numbers: &[u32]) -> Job
 // Plans the job of some numbers and goes on, or prints the number of the refusal; where points are too few or too many, the
 // count of their section.
 fn run_sections(numbers: &[u32], starts: &[usize; 8], lines: &[usize; 7]) {
-    let front = part_of(numbers, starts[0], starts[1]);
+    let front = numbers_of(numbers, starts, sections::JOB);
     if front.len() != JOB_NUMBERS {
         return say_count(sections::JOB, front.len(), JOB_NUMBERS, lines[0]);
     }
     let job = job_of(front);
-    let points = part_of(numbers, starts[1], starts[2]);
+    let points = numbers_of(numbers, starts, sections::POINTS);
     match plan::plan_job(job, points) {
         Planned::Refused(number) => {
             if number == refusal::POINTS {

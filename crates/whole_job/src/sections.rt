@@ -21,7 +21,9 @@ pub const MASKS_A: usize = 4;
 
 pub const MASKS_B: usize = 5;
 
-// How many sections there are; the last has the answers.
+pub const ANSWERS: usize = 6;
+
+// How many sections there are.
 const SECTIONS: usize = 7;
 
 // How many bytes the longest word has.
@@ -144,16 +146,13 @@ fn further(at: usize, more: usize) -> usize
     least(at, MOST_TEXT) + least(more, MOST_TEXT)
 }
 
-// The numbers from one place up to another; what is past their end is left out.
-pub fn part_of(numbers: &[u32], from: usize, to: usize) -> &[u32] {
-    let end = least(to, numbers.len());
-    let start = least(from, end);
+// The numbers of a section; the next one starts where it ends.
+pub fn numbers_of<'a>(numbers: &'a [u32], starts: &[usize; 8], section: usize) -> &'a [u32]
+    requires { ⌜ section < 7 ⌝ }
+{
+    let end = least(starts[section + 1], numbers.len());
+    let start = least(starts[section], end);
     &numbers[start..end]
-}
-
-// How many numbers stand from one place up to another.
-pub fn count_between(from: usize, to: usize) -> usize {
-    to - least(from, to)
 }
 
 // ---- reading

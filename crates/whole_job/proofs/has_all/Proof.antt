@@ -6,31 +6,16 @@ use Rattle.whole_job.proofs.has_all.Statement.{statement}
 use Rattle.whole_job.proofs.has_all.Tie as tie
 
 abbrev Inv-loop : tie.InvT-loop
-Inv-loop job plan starts lines section₀ section = section ≤ 6
+Inv-loop job plan numbers starts lines section₀ section = section ≤ 6
 
 abbrev μ-loop : tie.MeasureT-loop
-μ-loop job plan starts lines section₀ section = 6 - section
+μ-loop job plan numbers starts lines section₀ section = 6 - section
 
 loop-holds : tie.Need-loop-holds Inv-loop μ-loop
 loop-holds c = omega arith
 
-mul-count-between : tie.Need-mul-count-between Inv-loop μ-loop
-mul-count-between c = omega arith
-
-element-copy-out-count-between : tie.Need-element-copy-out-count-between Inv-loop μ-loop
-element-copy-out-count-between c = omega arith
-
-add-count-between : tie.Need-add-count-between Inv-loop μ-loop
-add-count-between c = omega arith
-
-mul-count-between-2 : tie.Need-mul-count-between-2 Inv-loop μ-loop
-mul-count-between-2 c = omega arith
-
-element-copy-out-count-between-2 : tie.Need-element-copy-out-count-between-2 Inv-loop μ-loop
-element-copy-out-count-between-2 c = omega arith
-
-count-between-requires : tie.Need-count-between-requires Inv-loop μ-loop
-count-between-requires c κs = search needs
+numbers-of-requires : tie.Need-numbers-of-requires Inv-loop μ-loop
+numbers-of-requires c κs = search needs
 
 needed-in-requires : tie.Need-needed-in-requires Inv-loop μ-loop
 needed-in-requires c κs = search needs
@@ -66,12 +51,7 @@ has-all-spec =
     Inv-loop
     μ-loop
     loop-holds
-    mul-count-between
-    element-copy-out-count-between
-    add-count-between
-    mul-count-between-2
-    element-copy-out-count-between-2
-    count-between-requires
+    numbers-of-requires
     needed-in-requires
     mul-say-count
     element-copy-out-say-count
