@@ -1,14 +1,17 @@
 #!/usr/bin/env bash
 # Runs the program of a whole job on all texts of the separate Rust program, and compares what it prints.
 #
-#   tests/whole_job.sh PROGRAM REFERENCE    PROGRAM is the built whole_job, REFERENCE the Rust program of docs/src
+#   tests/whole_job.sh PROGRAM REFERENCE LEAST    PROGRAM is the built whole_job, REFERENCE the Rust program of docs/src, LEAST
+#                                                 the least number of texts
 #
-# It prints one line and ends with 0 where all is as expected. At the first difference it shows it and ends with 1.
+# It prints one line and ends with 0 where all is as expected. At the first difference, and where there are fewer texts, it says
+# so and ends with 1.
 set -euo pipefail
 
-[ $# -eq 2 ] || { echo "usage: tests/whole_job.sh PROGRAM REFERENCE" >&2; exit 2; }
+[ $# -eq 3 ] || { echo "usage: tests/whole_job.sh PROGRAM REFERENCE LEAST" >&2; exit 2; }
 program=$1
 reference=$2
+least=$3
 
 room=$(mktemp -d)
 trap 'rm -rf "$room"' EXIT
@@ -25,9 +28,11 @@ differs() {
 "$reference" texts "$room" >"$room/report"
 texts=0
 for text in "$room"/*.in; do
-    name=$(basename "$text" .in)
+    name=${text##*/}
+    name=${name%.in}
     "$program" <"$text" >"$room/printed" || differs "$name" "ends with $?"
     cmp -s "$room/printed" "$room/$name.out" || differs "$name" "has another answer"
     texts=$((texts + 1))
 done
+[ "$texts" -ge "$least" ] || { echo "whole_job: $texts texts, at least $least are due" >&2; exit 1; }
 echo "whole_job: $texts texts, all as expected"

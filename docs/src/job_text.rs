@@ -2,21 +2,26 @@
 //! the hosts heard, and the table straight from A and B, with no shares and no messages.
 //!
 //!   Case        a text and all that must be printed for it
-//!   JobText     the numbers of a text, part by part
-//!   plain_text  numbers with single spaces between
-//!   GAPS        what may stand between two numbers
+//!   JobText     the numbers of a text, section by section
+//!   sectioned   the text of sections with these numbers, each in a line
+//!   tokens      the words and numbers of sections with these numbers
+//!   GAPS        what may stand between two tokens
 
 use crate::lister::{self, refused, Line};
 use crate::plan::{choose, prime, Job};
 use crate::random::Random;
 use crate::share::Side;
+use crate::text_sections::WORDS;
 use crate::texts::{answer_line, heard_line, tables};
 use crate::whole_job::{plain, Contents};
 
 /// A text and all that must be printed for it.
 pub type Case = (Vec<u8>, String);
 
-/// The numbers of a text, part by part; `order` has the hosts whose answers come in.
+/// The numbers of the sections of a text.
+pub type Parts = [Vec<u32>; 7];
+
+/// The numbers of a text, section by section; `order` has the hosts whose answers come in.
 #[derive(Clone)]
 pub struct JobText {
     pub line: Line,
@@ -55,34 +60,22 @@ impl JobText {
         }
     }
 
-    /// The parts in the order of the text: the job's numbers, points, A, B, A's masks, B's masks,
-    /// hosts.
-    pub fn parts(&self) -> [Vec<u32>; 7] {
+    /// The numbers of the sections: the job's numbers, points, A, B, A's masks, B's masks, hosts.
+    pub fn parts(&self) -> Parts {
         let [a, b] = self.sides.clone();
         let job = [&self.line[..], &[self.job_number]].concat();
         let [points, order] = [&self.points, &self.order].map(Vec::clone);
         [job, points, a.matrix, b.matrix, a.masks, b.masks, order]
     }
 
-    /// How many numbers there are up to the end of each part.
-    pub fn ends(&self) -> [usize; 7] {
-        let mut end = 0;
-        self.parts().map(|part| {
-            end += part.len();
-            end
-        })
-    }
-
-    /// The text with each part in a line.
+    /// The text with each section in a line.
     pub fn text(&self) -> Vec<u8> {
-        let mut lines = self.parts().map(|part| plain_text(&part));
-        lines.iter_mut().for_each(|line| line.push(b'\n'));
-        lines.concat()
+        sectioned(&self.parts())
     }
 
     /// The text with white space, comments and leading zeros by chance.
     pub fn strewn_text(&self, random: &mut Random) -> Vec<u8> {
-        strewn(random, &self.parts().concat())
+        strewn(random, &tokens(&self.parts()))
     }
 
     /// The lines of the plan.
@@ -129,30 +122,45 @@ fn answers(order: &[u32], hosts: u32, needed: usize) -> (String, Vec<u32>) {
     (lines, heard)
 }
 
-/// Numbers with single spaces between.
-pub fn plain_text(numbers: &[u32]) -> Vec<u8> {
-    let words: Vec<String> = numbers.iter().map(u32::to_string).collect();
-    words.join(" ").into_bytes()
+/// The words and numbers of sections with these numbers.
+pub fn tokens(parts: &Parts) -> Vec<Vec<u8>> {
+    let sections = WORDS.iter().zip(parts).map(|(word, numbers)| {
+        let numbers = numbers.iter().map(|number| number.to_string().into_bytes());
+        [word.as_bytes().to_vec()].into_iter().chain(numbers)
+    });
+    sections.flatten().collect()
 }
 
-/// What may stand between two numbers.
+/// The text of sections with these numbers, each in a line, with single spaces between.
+pub fn sectioned(parts: &Parts) -> Vec<u8> {
+    let line = |(word, numbers): (&&str, &Vec<u32>)| {
+        let numbers: String = numbers.iter().map(|number| format!(" {number}")).collect();
+        format!("{word}{numbers}\n")
+    };
+    let text: String = WORDS.iter().zip(parts).map(line).collect();
+    text.into_bytes()
+}
+
+/// What may stand between two tokens.
 #[rustfmt::skip]
 pub const GAPS: [&[u8]; 16] = [
     b" ", b"\t", b"\n", b"\r", b"\r\n", b"   ", b"\n\n", b" \t\r\n ", b"#\n", b" # 1 2 3\n",
-    b"#x\r\n\t", b"\r#\r-1\r\n", b"\n# a, b; c.\n# -7\n", b"####\n", b"#\0\x0b\x0c\x7f\x80\xff\n",
-    b"# \xe2\x88\x92\xc2\xa0\n ",
+    b"#x\r\n\t", b"\r#-1 A\r\r\n", b"\n# a, b; c.\n# -7\n", b"####\r",
+    b"#\0\x0b\x0c\x7f\x80\xff\n", b"# \xe2\x88\x92\xc2\xa0\n ",
 ];
 
-/// Numbers with any gaps between, some with leading zeros, and maybe a gap at either end.
-fn strewn(random: &mut Random, numbers: &[u32]) -> Vec<u8> {
+/// Tokens with any gaps between, some numbers with leading zeros, and maybe a gap at either end.
+fn strewn(random: &mut Random, tokens: &[Vec<u8>]) -> Vec<u8> {
     let mut text = Vec::new();
-    for (i, number) in numbers.iter().enumerate() {
+    for (i, token) in tokens.iter().enumerate() {
         if i > 0 || random.within(0, 1) == 0 {
             text.extend(GAPS[random.index(GAPS.len())]);
         }
         let zeros = random.within(0, 40).saturating_sub(30) as usize;
-        text.extend(b"0".repeat(zeros));
-        text.extend(number.to_string().bytes());
+        if token[0].is_ascii_digit() {
+            text.extend(b"0".repeat(zeros));
+        }
+        text.extend(token);
     }
     if random.within(0, 1) == 0 {
         text.extend(GAPS[random.index(GAPS.len())]);

@@ -41,12 +41,14 @@
 //!   jobs            the file format of these cases and answers
 //!   job_cases       the subcommand `jobs`: all of them, checked and written
 //!
-//!   text_numbers    the numbers of a plain text
+//!   text_sections   the sections of a plain text
 //!   texts           what the program of a whole job must print for a text
 //!   job_text        a job as a text, and what must be printed by a shorter way
 //!   text_jobs       texts of jobs that are carried out
 //!   text_forms      texts of all forms and lengths
-//!   text_faults     texts with a fault
+//!   text_faults     texts with a fault in a number
+//!   text_words      texts with a fault in a word
+//!   text_counts     texts with a section that is short or long
 //!   text_refusals   texts of jobs that are refused or too large
 //!   text_short      texts that end too soon, and texts changed by chance
 //!   text_cases      the subcommand `texts`: all of them, checked and written
@@ -86,12 +88,14 @@ mod signed;
 mod signed_calls;
 mod story;
 mod text_cases;
+mod text_counts;
 mod text_faults;
 mod text_forms;
 mod text_jobs;
-mod text_numbers;
 mod text_refusals;
+mod text_sections;
 mod text_short;
+mod text_words;
 mod texts;
 mod whole_job;
 

@@ -1,5 +1,5 @@
 //! The subcommand `texts`: gathers texts for the program of a whole job, checks them, and writes
-//! each to a file NNN.in of a folder, and what must be printed for it to NNN.out.
+//! each to a file NNNN.in of a folder, and what must be printed for it to NNNN.out.
 
 use std::collections::{BTreeMap, HashSet};
 
@@ -7,18 +7,29 @@ use crate::cases::save;
 use crate::job_text::Case;
 use crate::random::Random;
 use crate::texts::printed;
-use crate::{plan_check, text_faults, text_forms, text_jobs, text_refusals, text_short};
+use crate::{
+    plan_check, text_counts, text_faults, text_forms, text_jobs, text_refusals, text_short,
+    text_words,
+};
 
 /// The kinds of all that is printed; there must be a text for each.
 #[rustfmt::skip]
-const KINDS: [&str; 25] = [
-    "job too large", "no number", "plan refused  1", "plan refused  2", "plan refused  3",
-    "plan refused  4", "plan refused  5", "plan refused  6", "plan refused  7", "plan refused  8",
-    "plan refused  9", "plan refused 10", "plan refused 11", "share refused 13", "share refused 14",
-    "share refused 15", "table of 13, layout 1", "table of 13, layout 2", "table of 257, layout 1",
-    "table of 257, layout 2", "table of 65537, layout 1", "table of 65537, layout 2",
-    "table refused 24", "text too long", "too few numbers",
+const KINDS: [&str; 43] = [
+    "expected the end of the text", "expected the word A", "expected the word ANSWERS",
+    "expected the word B", "expected the word JOB", "expected the word MASKS_A",
+    "expected the word MASKS_B", "expected the word POINTS", "job too large", "no number",
+    "number too large", "plan refused  1", "plan refused  2", "plan refused  3", "plan refused  4",
+    "plan refused  5", "plan refused  6", "plan refused  7", "plan refused  8", "plan refused 10",
+    "plan refused 11", "section A long", "section A short", "section B long", "section B short",
+    "section JOB long", "section JOB short", "section MASKS_A long", "section MASKS_A short",
+    "section MASKS_B long", "section MASKS_B short", "section POINTS long", "section POINTS short",
+    "share refused 14", "share refused 15", "table of 13, layout 1", "table of 13, layout 2",
+    "table of 257, layout 1", "table of 257, layout 2", "table of 65537, layout 1",
+    "table of 65537, layout 2", "table refused 24", "text too long",
 ];
+
+/// The most texts.
+const MOST_TEXTS: usize = 3000;
 
 /// Checks the program, then writes the texts and all that must be printed to a folder.
 pub fn write_folder(folder: &str) {
@@ -26,12 +37,12 @@ pub fn write_folder(folder: &str) {
     let cases = gathered();
     let mut counts: BTreeMap<String, u32> = BTreeMap::new();
     for (i, (text, due)) in cases.iter().enumerate() {
-        save(&format!("{folder}/{i:03}.in"), text);
-        save(&format!("{folder}/{i:03}.out"), due.as_bytes());
+        save(&format!("{folder}/{i:04}.in"), text);
+        save(&format!("{folder}/{i:04}.out"), due.as_bytes());
         *counts.entry(kind(due)).or_default() += 1;
     }
     assert!(
-        counts.keys().eq(KINDS.iter()) && cases.len() < 1000,
+        counts.keys().eq(KINDS.iter()) && cases.len() <= MOST_TEXTS,
         "{counts:?}"
     );
     report(&counts, &cases);
@@ -45,7 +56,9 @@ fn gathered() -> Vec<Case> {
         text_jobs::jobs(random),
         text_forms::forms(),
         text_faults::faults(),
-        text_forms::counts(),
+        text_words::words(),
+        text_forms::lengths(),
+        text_counts::counts(random),
         text_refusals::refusals(random),
         text_refusals::borders(random),
         text_refusals::large(),
@@ -71,15 +84,27 @@ fn kind(printed: &str) -> String {
         (Some(_), _, Some("24")) => "table refused 24".into(),
         (Some(_), _, Some(number)) => format!("share refused {number}"),
         (Some(q), Some(layout), None) => format!("table of {q}, layout {layout}"),
-        _ => first_words(printed),
+        _ => of_line(printed),
     }
 }
 
-/// The words in capitals at the beginning, in small letters.
-fn first_words(printed: &str) -> String {
-    let end = printed.find(|c: char| c != ' ' && !c.is_ascii_uppercase());
-    let words = printed[..end.unwrap_or(printed.len())].trim_end();
-    words.to_lowercase()
+/// The kind of a single line that is no refusal.
+fn of_line(line: &str) -> String {
+    let words: Vec<&str> = line.split_whitespace().collect();
+    match words[..] {
+        ["EXPECTED", "the", "word", word, ..] => format!("expected the word {word}"),
+        ["EXPECTED", ..] => "expected the end of the text".into(),
+        ["SECTION", word, "has", has, _, _, "needs", needs, ..] => {
+            let [has, needs] = [has, needs].map(|count| count.trim_end_matches(','));
+            let is_short = has.parse::<u32>().ok() < needs.parse().ok();
+            format!("section {word} {}", if is_short { "short" } else { "long" })
+        }
+        _ => {
+            let capital = |word: &&&str| word.chars().all(|c| c.is_ascii_uppercase() || c == ':');
+            let words: Vec<&str> = words.iter().take_while(capital).copied().collect();
+            words.join(" ").trim_end_matches(':').to_lowercase()
+        }
+    }
 }
 
 /// Prints how many texts there are of each kind, and what becomes of how many answers.

@@ -27,11 +27,12 @@ pub fn jobs(random: &mut Random) -> Vec<Case> {
 }
 
 /// The sheet's smallest job with some answers, and all that is printed for it, as told by hand.
-const BY_HAND: &str = "1 1 1 1 1 1 1 1 1 3 7\n1 2 3\n5\n4\n7\n9\n2 2 0 4 3 1 1\n";
+const BY_HAND: &str = "JOB 1 1 1 1 1 1 1 1 1 3 7\nPOINTS 1 2 3\nA 5\nB 4\n\
+    MASKS_A 7\nMASKS_B 9\nANSWERS 2 2 0 4 3 1 1\n";
 const BY_HAND_DUE: &str = "MODULUS 13\nLAYOUT 1\nHOSTS 3\nNEEDED 3\nA 0 | 1\nB 0 | 1\nC 0\n\
     host 2 taken, heard 1\nhost 2 refused 23\nhost 0 refused 12\nhost 4 refused 12\n\
     host 3 taken, heard 2\nhost 1 taken, heard 3\nhost 1 late, heard 3\nHEARD 1 2 3\n\
-    TABLE\n\t7\nSIGNED READING\n\t-6\n";
+    TABLE\n7\nSIGNED READING\n-6\n";
 
 /// The sheet's smallest job: as told by hand, in all orders, and with too few answers.
 fn checked_by_hand() -> Vec<Case> {
@@ -87,8 +88,8 @@ fn signed_ends() -> Vec<Case> {
                 },
                 ..JobText::by_hand()
             };
-            let gap = if upright { "\n" } else { "" };
-            let signed = format!("\t0{gap}\t{half}{gap}\t-{half}{gap}\t-1\n");
+            let gap = if upright { "\n" } else { "\t" };
+            let signed = format!("0{gap}{half}{gap}-{half}{gap}-1\n");
             assert!(job.due().ends_with(&format!("SIGNED READING\n{signed}")));
             cases.push(job.case());
         }

@@ -6,35 +6,66 @@
 
 use crate::faults::{alone_and_in_pairs, Fault};
 use crate::job_faults::{last_of, SMALL};
-use crate::job_text::{plain_text, Case, JobText};
+use crate::job_text::{sectioned, Case, JobText};
 use crate::lister::refused;
 use crate::plan::prime;
 use crate::random::Random;
 use crate::text_jobs::drawn;
+use crate::texts::{count_line, large_line};
 
-/// A job, and how many of its numbers stand in the text.
+/// A job, and numbers too many or too few in a section.
 #[derive(Clone)]
 struct Spoilt {
     job: JobText,
-    kept: usize,
+    spoilt: Option<(usize, Count)>,
+}
+
+/// How a section's count is wrong.
+#[derive(Clone, Copy)]
+enum Count {
+    Short,
+    Long,
 }
 
 impl Spoilt {
-    /// Ends the text so many numbers before the end of a part; parts are counted from 0.
-    fn end(&mut self, part: usize, before: usize) {
-        self.kept = self.job.ends()[part] - before;
+    /// Makes the count of a section wrong.
+    fn count(&mut self, section: usize, count: Count) {
+        self.spoilt = Some((section, count));
     }
 
-    /// The text in one line.
+    /// The text with each section in a line.
     fn text(&self) -> Vec<u8> {
-        let numbers = self.job.parts().concat();
-        plain_text(&numbers[..self.kept])
+        let mut parts = self.job.parts();
+        match self.spoilt {
+            Some((section, Count::Short)) => drop(parts[section].pop()),
+            Some((section, Count::Long)) => parts[section].push(1),
+            None => {}
+        }
+        sectioned(&parts)
+    }
+
+    /// What is printed where the first thing that is wrong has this number: 9 stands for the points'
+    /// count, 13 for another section's.
+    fn due(&self, number: u32) -> String {
+        match number {
+            9 | 13 => {
+                let (section, count) = self.spoilt.expect("a wrong count");
+                let needs = self.job.parts()[section].len();
+                let has = match count {
+                    Count::Short => needs - 1,
+                    Count::Long => needs + 1,
+                };
+                count_line(section, has, needs, section + 1)
+            }
+            14 | 15 => self.job.plan() + &refused(number),
+            _ => refused(number),
+        }
     }
 }
 
-/// Faults of a text of `SMALL`, in the order of the tests: one of each number for its plan, then
-/// for A, then for B.
-const FAULTS: [Fault<Spoilt>; 17] = [
+/// Faults of a text of `SMALL`, in the order of the tests: one of each number for its plan,
+/// a wrong count, then one of each number for A and for B.
+const FAULTS: [Fault<Spoilt>; 16] = [
     (1, |spoilt| spoilt.job.line[0] = 4),
     (2, |spoilt| spoilt.job.line[2] = 16385),
     (3, |spoilt| spoilt.job.line[5] = 9),
@@ -43,13 +74,12 @@ const FAULTS: [Fault<Spoilt>; 17] = [
     (6, |spoilt| spoilt.job.line[1] = 2732),
     (7, |spoilt| spoilt.job.line[9] = 65),
     (8, |spoilt| spoilt.job.line[8] = 2),
-    (9, |spoilt| spoilt.end(1, 1)),
+    (9, |spoilt| spoilt.count(1, Count::Short)),
     (10, |spoilt| spoilt.job.points[7] = 257),
     (11, |spoilt| spoilt.job.points[9] = 3),
-    (13, |spoilt| spoilt.end(4, 1)),
+    (13, |spoilt| spoilt.count(5, Count::Long)),
     (14, |spoilt| spoilt.job.sides[0].matrix[0] = 257),
     (15, |spoilt| spoilt.job.sides[0].masks[0] = 257),
-    (13, |spoilt| spoilt.end(5, 1)),
     (14, |spoilt| spoilt.job.sides[1].matrix[0] = 257),
     (15, |spoilt| spoilt.job.sides[1].masks[0] = 257),
 ];
@@ -81,8 +111,7 @@ const MORE_FAULTS: [Fault<Spoilt>; 36] = [
         (spoilt.job.line[0], spoilt.job.line[9]) = (1, 13)
     }),
     (8, |spoilt| spoilt.job.line[9] = 8),
-    (9, |spoilt| spoilt.end(0, 0)),
-    (9, |spoilt| spoilt.end(1, 5)),
+    (9, |spoilt| spoilt.count(1, Count::Long)),
     (10, |spoilt| spoilt.job.points[0] = 0),
     (10, |spoilt| spoilt.job.points[9] = u32::MAX),
     (10, |spoilt| {
@@ -104,30 +133,26 @@ const MORE_FAULTS: [Fault<Spoilt>; 36] = [
         *last_of(&mut spoilt.job.sides[1].masks) = u32::MAX
     }),
     (15, |spoilt| spoilt.job.sides[1].masks[5] = 512),
-    (13, |spoilt| spoilt.end(1, 0)),
-    (13, |spoilt| spoilt.end(4, 0)),
+    (13, |spoilt| spoilt.count(2, Count::Short)),
+    (13, |spoilt| spoilt.count(3, Count::Long)),
+    (13, |spoilt| spoilt.count(4, Count::Short)),
 ];
 
 /// Texts of `SMALL` with faults: each alone, and one of each number in pairs. A refused share comes
 /// after the plan.
 pub fn refusals(random: &mut Random) -> Vec<Case> {
     let job = drawn(random, SMALL, 0);
-    let kept = job.ends()[6];
-    let base = Spoilt { job, kept };
+    let base = Spoilt { job, spoilt: None };
     let mut texts = alone_and_in_pairs(&base, &FAULTS);
     for (number, fault) in MORE_FAULTS {
         let mut spoilt = base.clone();
         fault(&mut spoilt);
         texts.push((spoilt, number));
     }
-    let cases = texts.into_iter().map(|(spoilt, number)| {
-        let plan = match number {
-            1..=11 => String::new(),
-            _ => spoilt.job.plan(),
-        };
-        (spoilt.text(), plan + &refused(number))
-    });
-    cases.collect()
+    let cases = texts.into_iter();
+    cases
+        .map(|(spoilt, number)| (spoilt.text(), spoilt.due(number)))
+        .collect()
 }
 
 /// For each modulus, one element or mask that is q - 1, q or q + 1.
@@ -161,38 +186,42 @@ pub fn borders(random: &mut Random) -> Vec<Case> {
 }
 
 /// Jobs with more elements than the program has room for, by one and by many, in answers, A blocks
-/// or B blocks; no size limit of the sheet is broken. The texts end after the points, or some more
+/// or B blocks; no size limit of the sheet is broken. The other sections are empty, or have some
 /// numbers; with one point short, 0 or repeated the plan is refused.
 pub fn large() -> Vec<Case> {
     let lines = [
-        [1, 64, 1, 64, 1, 1, 1, 1, 1, 9],
-        [2, 64, 64, 1, 1, 1, 1, 1, 1, 9],
-        [3, 1, 64, 64, 1, 1, 1, 1, 1, 9],
-        [1, 331, 1, 11, 1, 1, 1, 1, 1, 9],
-        [2, 331, 11, 1, 1, 1, 1, 1, 1, 9],
-        [3, 1, 11, 331, 1, 1, 1, 1, 1, 9],
-        [3, 64, 64, 64, 1, 1, 1, 1, 1, 64],
-        [3, 27, 1, 19, 1, 1, 1, 1, 1, 64],
-        [3, 448, 1, 448, 7, 1, 7, 1, 1, 64],
-        [3, 256, 256, 64, 4, 4, 1, 8, 8, 64],
-        [1, 16384, 1, 1, 4, 1, 1, 1, 1, 9],
-        [2, 1, 16384, 1, 1, 4, 1, 1, 1, 9],
-        [3, 1, 1, 16384, 1, 1, 8, 1, 1, 17],
-        [2, 15424, 1, 1, 8, 1, 1, 1, 1, 17],
+        ([1, 64, 1, 64, 1, 1, 1, 1, 1, 9], 36_864),
+        ([2, 64, 64, 1, 1, 1, 1, 1, 1, 9], 36_864),
+        ([3, 1, 64, 64, 1, 1, 1, 1, 1, 9], 36_864),
+        ([1, 331, 1, 11, 1, 1, 1, 1, 1, 9], 32_769),
+        ([2, 331, 11, 1, 1, 1, 1, 1, 1, 9], 32_769),
+        ([3, 1, 11, 331, 1, 1, 1, 1, 1, 9], 32_769),
+        ([3, 64, 64, 64, 1, 1, 1, 1, 1, 64], 262_144),
+        ([3, 27, 1, 19, 1, 1, 1, 1, 1, 64], 32_832),
+        ([3, 448, 1, 448, 7, 1, 7, 1, 1, 64], 262_144),
+        ([3, 256, 256, 64, 4, 4, 1, 8, 8, 64], 262_144),
+        ([1, 16384, 1, 1, 4, 1, 1, 1, 1, 9], 36_864),
+        ([2, 1, 16384, 1, 1, 4, 1, 1, 1, 9], 36_864),
+        ([3, 1, 1, 16384, 1, 1, 8, 1, 1, 17], 34_816),
+        ([2, 15424, 1, 1, 8, 1, 1, 1, 1, 17], 32_776),
     ];
     let mut cases = Vec::new();
-    for line in lines {
+    for (line, elements) in lines {
         let points: Vec<u32> = (1..=line[9]).collect();
-        let text = |points: &[u32]| plain_text(&[&line[..], &[0], points].concat());
+        let text = |points: &[u32], others: &[u32]| {
+            let job = [&line[..], &[0]].concat();
+            let [a, b, c, d, e] = [(); 5].map(|()| others.to_vec());
+            sectioned(&[job, points.to_vec(), a, b, c, d, e])
+        };
         let [mut zero, mut repeated] = [points.clone(), points.clone()];
         *last_of(&mut zero) = 0;
         *last_of(&mut repeated) = 1;
-        for numbers in [points.clone(), points.repeat(2)] {
-            cases.push((text(&numbers), "JOB TOO LARGE for this program\n".into()));
-        }
-        cases.push((text(&points[1..]), refused(9)));
-        cases.push((text(&zero), refused(10)));
-        cases.push((text(&repeated), refused(11)));
+        cases.push((text(&points, &[]), large_line(elements)));
+        cases.push((text(&points, &points), large_line(elements)));
+        let (has, needs) = (points.len() - 1, points.len());
+        cases.push((text(&points[1..], &[]), count_line(1, has, needs, 2)));
+        cases.push((text(&zero, &[]), refused(10)));
+        cases.push((text(&repeated, &[]), refused(11)));
     }
     cases
 }

@@ -1,58 +1,66 @@
 //! Texts that end too soon, and texts changed by chance.
 //!
-//!   short    texts that end at the end of a part, one number before it and one after it
+//!   short    the beginnings of a text
 //!   changed  texts with a byte or a number changed, whatever becomes of them
 
 use crate::draw::nudged;
 use crate::job_faults::SMALL;
 use crate::job_stories::small_line;
-use crate::job_text::{plain_text, Case, JobText};
-use crate::lister::refused;
+use crate::job_text::{tokens, Case, JobText};
 use crate::lister_texts::damage;
 use crate::random::Random;
 use crate::text_jobs::drawn;
-use crate::texts::JOB_NUMBERS;
+use crate::text_sections::{Fault, Place, WORDS};
+use crate::texts::fault_line;
 
-/// All beginnings of the sheet's smallest job and, for a job in each layout, those that end at the
-/// end of a part, one number before it and one after it.
+/// All beginnings of the sheet's smallest job and, for a job in each layout, those that end before a
+/// word, with it, and one number after it. They are in one line, or a token in a line.
 pub fn short(random: &mut Random) -> Vec<Case> {
     let smallest = JobText::by_hand();
-    let mut cases: Vec<Case> = (0..=smallest.ends()[6])
-        .map(|kept| beginning(&smallest, kept))
-        .collect();
+    let mut cases = Vec::new();
+    for kept in 0..=tokens(&smallest.parts()).len() {
+        cases.push(beginning(&smallest, kept, b' '));
+        cases.push(beginning(&smallest, kept, b'\r'));
+    }
     for line in [SMALL, [3, 3, 4, 4, 3, 2, 2, 7, 7, 38]] {
         let job = drawn(random, line, 0);
-        let ends = job.ends();
-        let kept = ends.iter().flat_map(|&end| [end - 1, end, end + 1]);
-        cases.extend(
-            kept.filter(|&kept| kept <= ends[6])
-                .map(|kept| beginning(&job, kept)),
-        );
+        let all = tokens(&job.parts());
+        let words = (0..all.len()).filter(|&at| !all[at][0].is_ascii_digit());
+        let kept = words.flat_map(|at| [at, at + 1, at + 2]);
+        cases.extend(kept.map(|kept| beginning(&job, kept, b'\n')));
     }
     cases
 }
 
-/// So many of the first numbers of a job.
-fn beginning(job: &JobText, kept: usize) -> Case {
-    let [_, points, _, _, _, shared, _] = job.ends();
-    let mut front = job.clone();
-    front.order.truncate(kept.saturating_sub(shared));
-    let due = if kept < JOB_NUMBERS {
-        format!("TOO FEW NUMBERS: {kept}\n")
-    } else if kept < points {
-        refused(9)
-    } else if kept < shared {
-        job.plan() + &refused(13)
-    } else {
-        front.due()
+/// So many of the first tokens of a job, with a byte between two.
+fn beginning(job: &JobText, kept: usize, gap: u8) -> Case {
+    let all = tokens(&job.parts());
+    let text = all[..kept].join(&gap);
+    let is_word = |token: &&Vec<u8>| !token[0].is_ascii_digit();
+    let words = all[..kept].iter().filter(is_word).count();
+    if words == WORDS.len() {
+        let mut front = job.clone();
+        front.order.truncate(job.order.len() + kept - all.len());
+        return (text, front.due());
+    }
+    let last = all[..kept].last().map_or(0, Vec::len);
+    let place = match gap {
+        b' ' => Place {
+            line: 1,
+            column: text.len() + 1,
+        },
+        _ => Place {
+            line: kept.max(1),
+            column: last + 1,
+        },
     };
-    (plain_text(&job.parts().concat()[..kept]), due)
+    (text, fault_line(Fault::NotTheWord(words), place))
 }
 
 /// Texts of small jobs with a byte or a number of the plan changed by chance.
 pub fn changed(random: &mut Random) -> Vec<Vec<u8>> {
     let mut texts = Vec::new();
-    for round in 0..60 {
+    for round in 0..300 {
         let line = small_line(random, round);
         let mut job = drawn(random, line, 0);
         if round % 2 == 0 {

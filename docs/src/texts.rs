@@ -1,24 +1,30 @@
 //! What the program of a whole job must print for a text.
 //!
-//! The numbers of a text are, in this order: modulus number, t, s, r, m, p, n, X_A, X_B, N, job
-//! number; N points; A; B; A's masks; B's masks; the hosts whose answers come in, one after
-//! another. Each part is as many of the numbers left as it needs, or all of them. Some texts get
-//! one line:
+//! A text has seven sections (`text_sections`): the job's eleven numbers, N points, A, B, A's masks,
+//! B's masks, and the hosts whose answers come in, one after another. A UTF-8 mark at its front is
+//! skipped. What is tested, in this order; the first that fits is printed:
 //!
-//!   TEXT TOO LONG                   65,536 bytes or more
-//!   NO NUMBER at line L, column C   a fault
-//!   TOO FEW NUMBERS: n              fewer than 11
-//!   REFUSED n                       a plan that is refused
-//!   JOB TOO LARGE for this program  a table, or blocks for all hosts, of over 32,768 elements
+//!   TEXT TOO LONG        65,536 bytes or more
+//!   EXPECTED, NO NUMBER,
+//!   NUMBER TOO LARGE     the first fault of the text, with its line and column
+//!   SECTION              the section JOB has not 11 numbers
+//!   REFUSED n            a plan that is refused; where n is 9, SECTION for the points
+//!   JOB TOO LARGE        blocks for all hosts of over 32,768 elements
+//!   SECTION              the first of A, B and the masks that has not its count
 //!
 //! The others get the plan as the lister has it. Then A is shared for all hosts, then B; a refusal
 //! is printed and ends it. Then comes a line for each answer, a line with the hosts heard, and the
 //! refusal of the decoding, or the table and its signed reading.
 //!
-//!   printed      all that is printed
-//!   answer_line  what became of a host's answer
-//!   heard_line   the hosts heard
-//!   tables       a table and its signed reading
+//!   printed        all that is printed
+//!   TOO_LONG       the line for a text that is too long
+//!   fault_line     the line for a fault
+//!   count_line     the line for a section that has not its count
+//!   large_line     the line for a job that is too large
+//!   needs          how many numbers A, B and the masks need
+//!   answer_line    what became of a host's answer
+//!   heard_line     the hosts heard
+//!   tables         a table and its signed reading
 
 use crate::arrival::{arrive, Arrived};
 use crate::decode::decode;
@@ -26,79 +32,112 @@ use crate::job_call::{answer_length, Act, JobCall};
 use crate::lister::{self, refused};
 use crate::plan::{refusal, Job};
 use crate::share::{share, Shape, Side};
-use crate::text_numbers::numbers;
+use crate::text_sections::{sections, Fault, Place, Section, WORDS};
 use crate::whole_job::{sharing, Contents, WholeJob};
 
 /// A text must be shorter than this.
 pub const MOST_TEXT: usize = 65_536;
 
-/// How many numbers stand before the points.
+/// How many numbers the section JOB has.
 pub const JOB_NUMBERS: usize = 11;
 
-/// The most elements of a table, and of blocks for all hosts.
+/// The most elements of blocks for all hosts.
 const MOST_ELEMENTS: usize = 32_768;
+
+/// The UTF-8 mark.
+pub const MARK: &[u8] = b"\xef\xbb\xbf";
+
+/// The line for a text that is too long.
+pub const TOO_LONG: &str = "TEXT TOO LONG: at most 65535 bytes\n";
+
+/// The line for a fault.
+pub fn fault_line(fault: Fault, place: Place) -> String {
+    let Place { line, column } = place;
+    let place = format!("at line {line}, column {column}");
+    match fault {
+        Fault::NoNumber => format!("NO NUMBER {place}\n"),
+        Fault::TooLarge => format!("NUMBER TOO LARGE {place}: the largest is {}\n", u32::MAX),
+        Fault::NotTheWord(section) => match WORDS.get(section) {
+            Some(word) => format!("EXPECTED the word {word} {place}\n"),
+            None => format!("EXPECTED the end of the text {place}\n"),
+        },
+    }
+}
+
+/// The line for a section that has not its count.
+pub fn count_line(section: usize, has: usize, needs: usize, line: usize) -> String {
+    let word = WORDS[section];
+    format!("SECTION {word} has {has} numbers and needs {needs}, line {line}\n")
+}
+
+/// The line for a job whose blocks for all hosts have so many elements.
+pub fn large_line(elements: usize) -> String {
+    format!("JOB TOO LARGE: its blocks for all hosts have {elements} elements, at most 32768 fit\n")
+}
 
 /// What is printed for a text.
 pub fn printed(text: &[u8]) -> String {
     if text.len() >= MOST_TEXT {
-        return "TEXT TOO LONG\n".into();
+        return TOO_LONG.into();
     }
-    match numbers(text) {
-        Ok(numbers) => printed_for(&numbers),
-        Err(place) => format!(
-            "NO NUMBER at line {}, column {}\n",
-            place.line, place.column
-        ),
+    match sections(text.strip_prefix(MARK).unwrap_or(text)) {
+        Ok(sections) => printed_for(&sections),
+        Err((fault, place)) => fault_line(fault, place),
     }
 }
 
-/// What is printed for the numbers of a text.
-fn printed_for(numbers: &[u32]) -> String {
-    let Some((front, mut rest)) = numbers.split_first_chunk::<JOB_NUMBERS>() else {
-        return format!("TOO FEW NUMBERS: {}\n", numbers.len());
+/// What is printed for the sections of a text.
+fn printed_for(sections: &[Section]) -> String {
+    let miscounted = |section: usize, needs: usize| {
+        let Section { line, numbers } = &sections[section];
+        (numbers.len() != needs).then(|| count_line(section, numbers.len(), needs, *line))
     };
-    let [line @ .., job_number] = front;
-    let job = Job::of_line(line);
-    let points = cut(&mut rest, job.hosts as usize);
-    if let Some(number) = refusal(&job, &points) {
-        return refused(number);
+    if let Some(line) = miscounted(0, JOB_NUMBERS) {
+        return line;
     }
-    if too_large(&job) {
-        return "JOB TOO LARGE for this program\n".into();
+    let numbers = |section: usize| sections[section].numbers.clone();
+    let (line, job_number) = (&numbers(0)[..10], numbers(0)[10]);
+    let line = line.try_into().expect("ten numbers");
+    let job = Job::of_line(&line);
+    match refusal(&job, &numbers(1)) {
+        Some(9) => return miscounted(1, job.hosts as usize).expect("a wrong count"),
+        Some(number) => return refused(number),
+        None => {}
     }
-    let plan = lister::answer(&lister::text(line));
-    let sides = sides(&job, &mut rest);
-    if let Some(number) = share_refusal(&job, &points, &sides) {
+    if largest_blocks(&job) > MOST_ELEMENTS {
+        return large_line(largest_blocks(&job));
+    }
+    if let Some(line) = (2..).zip(needs(&job)).find_map(|(i, n)| miscounted(i, n)) {
+        return line;
+    }
+    let plan = lister::answer(&lister::text(&line));
+    let sides = [0, 1].map(|side| Contents {
+        matrix: numbers(2 + side),
+        masks: numbers(4 + side),
+    });
+    if let Some(number) = share_refusal(&job, &numbers(1), &sides) {
         return plan + &refused(number);
     }
-    let whole = WholeJob::of(*line, *job_number, points, sides);
-    plan + &answers_and_table(&whole, rest)
+    let whole = WholeJob::of(line, job_number, numbers(1), sides);
+    plan + &answers_and_table(&whole, &numbers(6))
 }
 
-/// Cuts so many numbers off the front, or as many as there are.
-fn cut(rest: &mut &[u32], count: usize) -> Vec<u32> {
-    let (front, back) = rest.split_at(count.min(rest.len()));
-    *rest = back;
-    front.to_vec()
+/// How many numbers A, B, A's masks and B's masks of an accepted job have.
+pub fn needs(job: &Job) -> [usize; 4] {
+    let [a, b] = [Side::A, Side::B].map(|side| Shape::of(side, job));
+    let matrices = [a.matrix_length(), b.matrix_length()];
+    let masks = [a.masks_length(), b.masks_length()];
+    [matrices[0], matrices[1], masks[0], masks[1]]
 }
 
-/// Whether an accepted job's table, or its A blocks, B blocks or answers for all hosts, have too
-/// many elements.
-fn too_large(job: &Job) -> bool {
+/// How many elements an accepted job's A blocks, B blocks or answers for all hosts have, where
+/// these are most. Its table has no more.
+fn largest_blocks(job: &Job) -> usize {
     let [a, b] = [Side::A, Side::B].map(|side| Shape::of(side, job).block_length());
-    let blocks = [a, b, answer_length(job)].map(|length| job.hosts as usize * length);
+    let hosts = job.hosts as usize;
     let table = (job.t * job.r) as usize;
-    table.max(blocks[0]).max(blocks[1]).max(blocks[2]) > MOST_ELEMENTS
-}
-
-/// Cuts A, B, A's masks and B's masks off the front.
-fn sides(job: &Job, rest: &mut &[u32]) -> [Contents; 2] {
-    let shapes = [Side::A, Side::B].map(|side| Shape::of(side, job));
-    let matrices = [0, 1].map(|i: usize| cut(rest, shapes[i].matrix_length()));
-    let masks = [0, 1].map(|i: usize| cut(rest, shapes[i].masks_length()));
-    let [a, b] = matrices;
-    let [a_masks, b_masks] = masks;
-    [(a, a_masks), (b, b_masks)].map(|(matrix, masks)| Contents { matrix, masks })
+    assert!(table <= hosts * answer_length(job));
+    hosts * a.max(b).max(answer_length(job))
 }
 
 /// The first refusal when A is shared for all hosts, and then B.
@@ -180,11 +219,11 @@ fn signed(element: i64, q: i64) -> i64 {
     }
 }
 
-/// Rows of numbers: a tab before each number, a line feed after each row.
+/// Rows of numbers: a tab between two numbers, a line feed after each row.
 fn rows(values: &[i64], columns: usize) -> String {
     let row = |row: &[i64]| {
-        let cells: String = row.iter().map(|value| format!("\t{value}")).collect();
-        cells + "\n"
+        let cells: Vec<String> = row.iter().map(i64::to_string).collect();
+        cells.join("\t") + "\n"
     };
     values.chunks(columns).map(row).collect()
 }

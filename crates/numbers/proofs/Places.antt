@@ -1,112 +1,77 @@
 -- Laws of places in a text.
 --
---   Counted                        line and column after the first i bytes
---   counted-none                   no byte
---   counted-feed, counted-other    one byte more: a line feed, and any other
---   counted-all                    all the bytes before a place
-use mathlib.Core.Path.{_≡_, refl, sym, ap, ap₂, _∙_}
-use mathlib.Core.Bool.{Bool, true, false, cond}
+--   moved-feed, moved-end, moved-other    the place after a line feed that a carriage return is before, after another line
+--                                         end, and after any other byte
+--   moved-short                           a byte moves line and column on by 1 at most
+--   Counted                               the place after the first i bytes
+--   counted-none                          no byte
+--   counted-more                          one byte more
+--   counted-all                           all the bytes before a place
+use mathlib.Core.Path.{_≡_, refl, sym, ap, _∙_}
+use mathlib.Core.Bool.{true, false}
 use mathlib.Core.Logic.{⊎-elim}
-use mathlib.Core.List.{List, [], _∷_, _++_}
+use mathlib.Core.List.{List, [], _∷_}
 use Prim.Native.Nat.{ℕ, suc, min, _+_, _<_, _≤_}
 use native.Mathlib.Numerals.{add-one}
 use native.Mathlib.Omega.{arith}
-use lib.Dec.{eqb}
-use lib.ListN.{length, getD, take, length-append}
-use lib.Seq.{take-suc, take-all, take-length}
-use borrow.Author.Tests.{ne-eqb}
+use lib.ListN.{length, getD, take, drop, drop-of-length-le, length-take}
+use lib.Seq.{drop-cons, getD-take}
 use Rattle.algebra.proofs.Tests.{by-test}
-use Rattle.algebra.proofs.Orders.{le-or-lt}
 use Rattle.numbers.specs.declared.Place.{Place}
-use Rattle.numbers.specs.Places.{feeds, lastLine, placeOf}
+use Rattle.numbers.specs.Numbers.{endsLine}
+use Rattle.numbers.specs.Places.{paired, moved, placeFrom, placeOf}
 
--- the line feeds of some bytes and one more: a line feed, and any other
-feeds-more : (bs : List ℕ) (x : ℕ) → feeds (bs ++ (x ∷ [])) ≡ feeds bs + feeds (x ∷ [])
-unfolding feeds
-feeds-more [] x = omega arith
-feeds-more (b ∷ bs) x = go (eqb b 10) (feeds-more bs x)
-  where
-    go : (t : Bool) {m : ℕ} → m ≡ feeds bs + feeds (x ∷ []) → cond t (suc m) m ≡ cond t (suc (feeds bs)) (feeds bs) + feeds (x ∷ [])
-    go true e = omega arith
-    go false e = e
+module _ (before : ℕ) (place : Place) (b : ℕ) where
+  pub moved-feed : paired before b ≡ true → moved before place b ≡ place
+  unfolding moved
+  moved-feed e = rw e
 
-feeds-feed : (bs : List ℕ) → feeds (bs ++ (10 ∷ [])) ≡ feeds bs + 1
-unfolding feeds
-feeds-feed bs = feeds-more bs 10
+  pub moved-end : paired before b ≡ false → endsLine b ≡ true
+      → moved before place b ≡ record { line = place .line + 1; column = 1 }
+  unfolding moved
+  moved-end e l = rw (e, l)
 
-feeds-other : (bs : List ℕ) (x : ℕ) → (x ≡ 10 → ⊥) → feeds (bs ++ (x ∷ [])) ≡ feeds bs
-unfolding feeds
-feeds-other bs x h = let none : feeds (x ∷ []) ≡ 0 = rw (ne-eqb x 10 h) in omega (arith, feeds-more bs x)
+  pub moved-other : paired before b ≡ false → endsLine b ≡ false
+      → moved before place b ≡ record { line = place .line; column = place .column + 1 }
+  unfolding moved
+  moved-other e l = rw (e, l)
 
--- the last line of some bytes and one more
-last-feed : (bs : List ℕ) → lastLine (bs ++ (10 ∷ [])) ≡ []
-unfolding lastLine feeds
-last-feed [] = refl
-last-feed (b ∷ bs) =
-    rw (feeds-feed (b ∷ bs), ne-eqb (feeds (b ∷ bs) + 1) 0 (λ e. omega arith)) (last-feed bs)
+  pub moved-short : (n : ℕ) → (place .line ≤ n) × (place .column ≤ n)
+      → (moved before place b .line ≤ n + 1) × (moved before place b .column ≤ n + 1)
+  moved-short n h =
+      ⊎-elim
+      (λ (e : paired before b ≡ true). rw (moved-feed e) (omega arith, omega arith))
+      (λ (e : paired before b ≡ false).
+      ⊎-elim
+      (λ (l : endsLine b ≡ true). rw (moved-end e l) (omega arith, omega arith))
+      (λ (l : endsLine b ≡ false). rw (moved-other e l) (omega arith, omega arith))
+      (by-test (endsLine b)))
+      (by-test (paired before b))
 
-last-other : (bs : List ℕ) (x : ℕ) → (x ≡ 10 → ⊥) → lastLine (bs ++ (x ∷ [])) ≡ lastLine bs ++ (x ∷ [])
-unfolding lastLine feeds
-last-other [] x h = rw (ne-eqb x 10 h)
-last-other (b ∷ bs) x h =
-    rw (feeds-other (b ∷ bs) x h)
-    (⊎-elim (λ t. rw t) (λ f. rw f (last-other bs x h)) (by-test (eqb (feeds (b ∷ bs)) 0)))
+-- The first i bytes before the place `at` of the text, counted.
+pub record Counted (text : List ℕ) (at before : ℕ) (place : Place) (i : ℕ) : Type 0 where
+  pub short : (place .line ≤ i + 1) × (place .column ≤ i + 1)
+  pub on : placeOf text at ≡ placeFrom before place (drop i (take at text))
 
--- The first i bytes of the text, counted.
-pub record Counted (text : List ℕ) (line column i : ℕ) : Type 0 where
-  pub short : line ≤ i + 1
-  pub narrow : column ≤ i + 1
-  pub lines : line ≡ 1 + feeds (take i text)
-  pub columns : column ≡ 1 + length (lastLine (take i text))
-
-pub counted-none : (text : List ℕ) → Counted text 1 1 0
-unfolding feeds lastLine
-counted-none text = record { short = omega arith; narrow = omega arith; lines = refl; columns = refl }
-
-module _ {text : List ℕ} {line column i : ℕ} (c : Counted text line column i) (within : i < length text) where
-  -- one byte more
-  more : take (i + 1) text ≡ take i text ++ (getD text i 0 ∷ [])
-  more = rw add-one (take-suc text i 0 within)
-
-  pub counted-feed : getD text i 0 ≡ 10 → Counted text (line + 1) 1 (i + 1)
-  counted-feed e =
-      let before = take i text in
-      let is : take (i + 1) text ≡ before ++ (10 ∷ []) = more ∙ ap (λ (b : ℕ). before ++ (b ∷ [])) e in
-      record {
-        short = omega (arith, c .short);
-        narrow = omega arith;
-        lines = rw is (omega (arith, c .lines, feeds-feed before));
-        columns = rw (is, last-feed before);
-      }
-
-  pub counted-other : (getD text i 0 ≡ 10 → ⊥) → Counted text line (column + 1) (i + 1)
-  counted-other h =
-      let before = take i text in
-      let b = getD text i 0 in
-      record {
-        short = omega (arith, c .short);
-        narrow = omega (arith, c .narrow);
-        lines = rw more (omega (arith, c .lines, feeds-other before b h));
-        columns = rw (more, last-other before b h) (omega (arith, c .columns, length-append (lastLine before) (b ∷ [])));
-      }
-
--- a place beyond the end is that of the end
-take-least : (text : List ℕ) (at : ℕ) → take (min at (length text)) text ≡ take at text
-take-least text at =
-    ⊎-elim
-    (λ (h : at ≤ length text). let e : min at (length text) ≡ at = omega arith in ap (λ (k : ℕ). take k text) e)
-    (λ (h : length text < at).
-    let e : min at (length text) ≡ length text = omega arith in
-    ap (λ (k : ℕ). take k text) e ∙ take-length text ∙ sym (take-all at text (omega arith)))
-    (le-or-lt at (length text))
-
-pub counted-all : (text : List ℕ) (line column at i : ℕ) → Counted text line column i → i ≡ min at (length text)
-    → _≡_ {A = Place} (record { line = line; column = column }) (placeOf text at)
+pub counted-none : (text : List ℕ) (at : ℕ) → Counted text at 0 (record { line = 1; column = 1 }) 0
 unfolding placeOf
-counted-all text line column at i c e =
-    let all : take i text ≡ take at text = ap (λ (k : ℕ). take k text) e ∙ take-least text at in
-    ap₂ (λ (l k : ℕ). place l k) (c .lines ∙ ap (λ (bs : List ℕ). 1 + feeds bs) all)
-    (c .columns ∙ ap (λ (bs : List ℕ). 1 + length (lastLine bs)) all)
-  where
-    place : ℕ → ℕ → Place
-    place l k = record { line = l; column = k }
+counted-none text at = record { short = (omega arith, omega arith); on = refl }
+
+module _ {text : List ℕ} {at before : ℕ} {place : Place} {i : ℕ} (c : Counted text at before place i) where
+  pub counted-more : i < min at (length text) → Counted text at (getD text i 0) (moved before place (getD text i 0)) (i + 1)
+  unfolding placeFrom
+  counted-more h =
+      let b = getD text i 0 in
+      let inside : i < length (take at text) = omega (arith, length-take at text) in
+      let one : drop i (take at text) ≡ b ∷ drop (suc i) (take at text)
+      = drop-cons (take at text) i 0 inside ∙ ap (λ (x : ℕ). x ∷ drop (suc i) (take at text)) (getD-take at text i 0 (omega arith)) in
+      record {
+        short = moved-short before place b (i + 1) (c .short);
+        on = rw (add-one i) (c .on ∙ ap (placeFrom before place) one);
+      }
+
+  pub counted-all : i ≡ min at (length text) → place ≡ placeOf text at
+  unfolding placeFrom
+  counted-all e =
+      let past : drop i (take at text) ≡ [] = drop-of-length-le (take at text) {i = i} (omega (arith, length-take at text)) in
+      sym (c .on ∙ ap (placeFrom before place) past)

@@ -18,10 +18,10 @@ use lib.ListN.{length}
 use borrow.Author.Tests.{le-leb, lt-leb}
 use Rattle.algebra.proofs.Tests.{and-left, and-right}
 use Rattle.numbers.specs.declared.Part.{Part}
-use Rattle.numbers.specs.Numbers.{isDigit, setsApart, apart, number, grown, fits, after, ends, ended, taken, reached, found}
+use Rattle.numbers.specs.Numbers.{within, isDigit, endsLine, setsApart, apart, number, grown, fits, after, ends, ended, taken, reached, found}
 
 pub is-digit : (b : ℕ) → isDigit b ≡ true → (48 ≤ b) × (b ≤ 57)
-unfolding isDigit
+unfolding isDigit within
 is-digit b e =
     let t : T (isDigit b) = subst T (sym e) tt in
     (leb→le 48 b (and-left (leb 48 b) (leb b 57) t), leb→le b 57 (and-right (leb 48 b) (leb b 57) t))
@@ -39,7 +39,7 @@ module _ (part : Part) (b : ℕ) where
   unfolding fits
   fits-other c d = rw (c, d)
 
-  pub after-comment : part .comment ≡ true → after part b ≡ apart (not (eqb b 10))
+  pub after-comment : part .comment ≡ true → after part b ≡ apart (not (endsLine b))
   unfolding after
   after-comment c = rw c
 

@@ -17,7 +17,7 @@ use Rattle.text.specs.Decimal.{digit, spell, decimal}
 use Rattle.text.proofs.Decimals.{spell-last, spell-more, tenth}
 use Rattle.numbers.specs.declared.Part.{Part}
 use Rattle.numbers.specs.declared.Numbers.{Numbers}
-use Rattle.numbers.specs.Numbers.{isDigit, setsApart, apart, number, grown, fits, after, ends, ended, taken, reached, found, closed, reach, numbersOf, answer, written}
+use Rattle.numbers.specs.Numbers.{within, isDigit, setsApart, apart, number, grown, fits, after, ends, ended, taken, reached, found, closed, reach, numbersOf, answer, written}
 use Rattle.numbers.proofs.Steps.{fits-digit, after-digit, ended-none, reached-on, found-on}
 
 record Leads (p : Part) (bs ns : List ℕ) (q : Part) : Type 0 where
@@ -56,7 +56,7 @@ leads-on {p} {q} {r} xs ys ms ns f g =
 
 module _ (p : Part) (d : ℕ) (outside : p .comment ≡ false) (one : d < 10) where
   is-one : isDigit (digit d) ≡ true
-  unfolding isDigit digit
+  unfolding isDigit within digit
   is-one = rw (le-leb 48 (48 + d) (omega arith), le-leb (48 + d) 57 (omega arith))
 
   grown-one : grown p (digit d) ≡ p .value * 10 + d
@@ -95,11 +95,11 @@ leads-decimal n h = leads-spell 9 n h (omega arith)
 
 -- the line feed after a number, and after the text
 leads-feed : (v : ℕ) → Leads (number v) (10 ∷ []) (v ∷ []) (apart false)
-unfolding isDigit setsApart apart number fits after ends ended
+unfolding within isDigit setsApart apart number fits after ends ended
 leads-feed v = leads-byte (number v) 10 refl
 
 leads-end : Leads (apart false) (10 ∷ []) [] (apart false)
-unfolding isDigit setsApart apart fits after ends ended
+unfolding within isDigit setsApart apart fits after ends ended
 leads-end = leads-byte (apart false) 10 refl
 
 leads-written : (ns : List ℕ) → AllBelow (2 ^ 32) ns → Leads (apart false) (written ns) ns (apart false)

@@ -1,13 +1,15 @@
 -- Whole numbers in plain text.
 --
 -- The format: whole numbers in decimal, set apart by white space: space (32), tab (9), line feed (10), carriage return (13).
--- A # (35) begins a comment, which goes to the end of its line; it may follow a number directly. A number is one or more
--- digits (48 to 57); leading zeros are allowed, and its value must be below 2^32. The end of the text ends a number too, as
--- one more line feed would.
+-- A # (35) begins a comment, which goes to the end of its line, a line feed or a carriage return; it may follow a number
+-- directly. A number is one or more digits (48 to 57); leading zeros are allowed, and its value must be below 2^32. The end
+-- of the text ends a number too, as one more line feed would.
 -- Outside a comment, a fault is any other byte, a digit by which a value would reach 2^32, and a byte that ends a number for
 -- which there is no room. A fault is told by its place in the text, counted from 0.
 --
+--   within low high b      == b is low to high
 --   isDigit b              == b is the byte of a digit
+--   endsLine b             == b is a line feed or a carriage return
 --   setsApart b            == b may stand between numbers: white space, or the # of a comment
 --   Part                   == where in a text a byte stands: whether in a comment, whether after some digits of a number,
 --                             and their value, or 0
@@ -36,8 +38,14 @@ use Rattle.numbers.specs.declared.Part.{Part}
 use Rattle.numbers.specs.declared.Numbers.{Numbers}
 use Rattle.text.specs.Decimal.{decimal}
 
+unfoldable pub within : ℕ → ℕ → ℕ → Bool
+within low high b = leb low b && leb b high
+
 unfoldable pub isDigit : ℕ → Bool
-isDigit b = leb 48 b && leb b 57
+isDigit b = within 48 57 b
+
+unfoldable pub endsLine : ℕ → Bool
+endsLine b = eqb b 10 || eqb b 13
 
 unfoldable pub setsApart : ℕ → Bool
 setsApart b = eqb b 32 || eqb b 9 || eqb b 10 || eqb b 13 || eqb b 35
@@ -56,7 +64,7 @@ fits part b = part .comment || cond (isDigit b) (ltb (grown part b) (2 ^ 32)) (s
 
 unfoldable pub after : Part → ℕ → Part
 after part b =
-    cond (part .comment) (apart (not (eqb b 10))) (cond (isDigit b) (number (grown part b)) (apart (eqb b 35)))
+    cond (part .comment) (apart (not (endsLine b))) (cond (isDigit b) (number (grown part b)) (apart (eqb b 35)))
 
 unfoldable pub ends : Part → ℕ → Bool
 ends part b = part .begun && not (isDigit b)

@@ -1,16 +1,15 @@
 -- `numbers::is_digit` meets its contract.
-use borrow.Author.Tests.{le-leb, lt-leb}
+use borrow.Author.Needs.{needs}
 use Rattle.numbers.specs.Numbers.{isDigit}
 use Rattle.numbers.proofs.is_digit.Statement.{statement}
 use Rattle.numbers.proofs.is_digit.Tie as tie
 
+is-within-requires : tie.Need-is-within-requires
+is-within-requires c κs = search needs
+
 returns : tie.Need-returns
 unfolding isDigit
-returns c = rw (le-leb 48 (c .before .args .byte) (c .if1 .taken))
-
-returns-2 : tie.Need-returns-2
-unfolding isDigit
-returns-2 c = rw (lt-leb 48 (c .before .args .byte) (c .if1 .left))
+returns c = c .is-within .ensures
 
 pub is-digit-spec : {M : Type 1} → statement M
-is-digit-spec = tie.close (tie.spec returns returns-2)
+is-digit-spec = tie.close (tie.spec is-within-requires returns)

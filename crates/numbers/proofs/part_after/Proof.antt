@@ -1,6 +1,6 @@
 -- `numbers::part_after` meets its contract.
 use mathlib.Core.Path.{_≡_, sym, ap, _∙_}
-use mathlib.Core.Bool.{true}
+use mathlib.Core.Bool.{Bool, true, not}
 use Prim.Native.Nat.{_^_, _<_}
 use native.Mathlib.Omega.{arith}
 use borrow.Author.Tests.{ltb-true}
@@ -10,9 +10,13 @@ use Rattle.numbers.proofs.Steps.{fits-digit, after-comment, after-digit
 use Rattle.numbers.proofs.part_after.Statement.{statement}
 use Rattle.numbers.proofs.part_after.Tie as tie
 
+ends-line-requires : tie.Need-ends-line-requires
+ends-line-requires c κs = search needs
+
 returns : tie.Need-returns
 unfolding apart
-returns c = sym (after-comment _ _ (c .if1 .taken))
+returns c =
+    ap (λ (t : Bool). apart (not t)) (c .ends-line .ensures) ∙ sym (after-comment _ _ (c .before .if1 .taken))
 
 is-digit-requires : tie.Need-is-digit-requires
 is-digit-requires c κs = search needs
@@ -29,8 +33,8 @@ small c =
     let e = c .before .before in
     ltb-true _ _ (sym (fits-digit _ _ (e .if1 .left) (digit c)) ∙ e .before .pre)
 
-cast-t7 : tie.Need-cast-t7
-cast-t7 c = omega (arith, c .with-digit .ensures, small (c .before))
+cast-t8 : tie.Need-cast-t8
+cast-t8 c = omega (arith, c .with-digit .ensures, small (c .before))
 
 returns-2 : tie.Need-returns-2
 unfolding number
@@ -45,4 +49,4 @@ returns-3 c =
 pub part-after-spec : {M : Type 1} → statement M
 part-after-spec =
     tie.close
-    (tie.spec returns is-digit-requires with-digit-requires cast-t7 returns-2 returns-3)
+    (tie.spec ends-line-requires returns is-digit-requires with-digit-requires cast-t8 returns-2 returns-3)
