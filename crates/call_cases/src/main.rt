@@ -36,7 +36,7 @@ const HEAD_WORDS: usize = 18;
 // The program ends, however long its input is.
 const MOST_CASES: u32 = 1000000;
 
-// A word more than a word holds, and the most that a signed number of 64 bits holds.
+// A number of 64 bits is a high word times 2^32 and a low one. The largest signed one is below 2^63.
 const WORD: u64 = 0x1_0000_0000;
 
 const MOST_SIGNED: u64 = 0x7FFF_FFFF_FFFF_FFFF;
@@ -143,7 +143,7 @@ fn put_reading(reading: Reading) {
     }
 }
 
-// The signed value of two words: a number below 2^63, or one with every bit turned.
+// The signed value of two words, in two's complement: a value below 0 is another with every bit turned.
 fn signed_value(high: u32, low: u32) -> i64 {
     let bits = high as u64 * WORD + low as u64;
     if bits <= MOST_SIGNED {
@@ -152,7 +152,7 @@ fn signed_value(high: u32, low: u32) -> i64 {
     !(!bits as i64)
 }
 
-// The bits of a signed value.
+// The 64 bits of a signed value: the same way back.
 fn bits_of(value: i64) -> u64 {
     if value < 0 {
         return !(!value as u64);
