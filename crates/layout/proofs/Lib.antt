@@ -1,3 +1,4 @@
 -- Laws of layouts.
+pub mod Examples
 pub mod Nests
 pub mod Soundness
