@@ -1,4 +1,5 @@
 -- Laws of layouts.
+pub mod Examples
 pub mod Nests
 pub mod Soundness
 pub mod Layouts

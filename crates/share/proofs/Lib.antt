@@ -1,3 +1,4 @@
 -- Laws of sharing: sums and answers.
+pub mod Examples
 pub mod Sums
 pub mod Answers
