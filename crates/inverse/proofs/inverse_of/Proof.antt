@@ -78,7 +78,7 @@ module _ (c : tie.Then1 Inv-loop μ-loop) where
 
 returns : tie.Need-returns Inv-loop μ-loop
 unfolding with-sign
-returns c = rw (c .before .if2 .taken) at (at-end (c .before .before) (ltb-true 0 _ (c .if3 .taken)))
+returns c = rw (c .before .if2 .taken) at (at-end (c .before .before) (ltb-true 0 (c .before .before .before .loop .last-factor) (c .if3 .taken)))
 
 returns-2 : tie.Need-returns-2 Inv-loop μ-loop
 unfolding with-sign
