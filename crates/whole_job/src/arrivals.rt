@@ -116,7 +116,7 @@ fn hear(
 }
 
 // Takes answers in the order given; prints what becomes of each, and tells the hosts heard.
-pub fn hear_all(
+pub(crate) fn hear_all(
     job: Job,
     plan: Plan,
     points: &[u32],
@@ -166,7 +166,7 @@ fn put_heard(out: &mut [u8], heard: u64) -> usize {
 }
 
 // Prints the hosts heard.
-pub fn say_heard(heard: u64) {
+pub(crate) fn say_heard(heard: u64) {
     let mut out = io::buffer();
     say(b"HEARD");
     let n = put_heard(&mut out, heard);

@@ -81,7 +81,14 @@ fn multiply(job: Job, plan: Plan, host: u32, a: &[u32], b: &[u32], message: &mut
 }
 
 // What a host does: gets both shares as messages, multiplies them and writes its answer's message.
-pub fn work(job: Job, plan: Plan, host: u32, a: &[u32], b: &[u32], message: &mut [u8]) -> u32 {
+pub(crate) fn work(
+    job: Job,
+    plan: Plan,
+    host: u32,
+    a: &[u32],
+    b: &[u32],
+    message: &mut [u8],
+) -> u32 {
     let mut left = block_room();
     let mut right = block_room();
     let left_size = block_size(plan.rows, plan.inner);

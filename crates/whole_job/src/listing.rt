@@ -36,7 +36,7 @@ fn list_job(numbers: &[u32], line: &mut [u8])
 }
 
 // Prints the plan.
-pub fn say_plan(numbers: &[u32])
+pub(crate) fn say_plan(numbers: &[u32])
     requires { ⌜ 10 ≤ length (now numbers) ⌝ }
 {
     let mut line = io::buffer();

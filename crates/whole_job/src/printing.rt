@@ -5,37 +5,37 @@ use libc::STDOUT_FILENO;
 use words::least;
 
 // Prints some bytes.
-pub fn say(bytes: &[u8]) {
+pub(crate) fn say(bytes: &[u8]) {
     io::write_all(STDOUT_FILENO, bytes);
 }
 
 // Prints some bytes and a number.
-pub fn say_number(bytes: &[u8], n: u64) {
+pub(crate) fn say_number(bytes: &[u8], n: u64) {
     io::write_all(STDOUT_FILENO, bytes);
     io::print_decimal(STDOUT_FILENO, n);
 }
 
 // Prints the line of a refusal.
-pub fn say_refused(number: u32) {
+pub(crate) fn say_refused(number: u32) {
     say_number(b"REFUSED ", number as u64);
     say(b"\n");
 }
 
 // Prints the line and column of the byte at a place of the text.
-pub fn say_place(text: &[u8], at: usize) {
+pub(crate) fn say_place(text: &[u8], at: usize) {
     let place = numbers::place_of(text, at);
     say_number(b" at line ", place.line as u64);
     say_number(b", column ", place.column as u64);
 }
 
 // Prints the front of a buffer.
-pub fn say_front(out: &[u8], count: usize) {
+pub(crate) fn say_front(out: &[u8], count: usize) {
     let n = least(count, out.len());
     io::write_all(STDOUT_FILENO, &out[..n]);
 }
 
 // Writes some bytes and a number.
-pub fn put(out: &mut [u8], at: usize, bytes: &[u8], n: u32) -> usize
+pub(crate) fn put(out: &mut [u8], at: usize, bytes: &[u8], n: u32) -> usize
     ensures { λ _. ⌜ length (now (out .exit)) ≡ length (now (out .entry)) ⌝ }
 {
     let next = text::put_bytes(out, at, bytes);
@@ -43,14 +43,14 @@ pub fn put(out: &mut [u8], at: usize, bytes: &[u8], n: u32) -> usize
 }
 
 // Writes a space and a number.
-pub fn put_value(out: &mut [u8], at: usize, n: u32) -> usize
+pub(crate) fn put_value(out: &mut [u8], at: usize, n: u32) -> usize
     ensures { λ _. ⌜ length (now (out .exit)) ≡ length (now (out .entry)) ⌝ }
 {
     put(out, at, b" ", n)
 }
 
 // Writes the end of a line.
-pub fn put_end(out: &mut [u8], at: usize) -> usize
+pub(crate) fn put_end(out: &mut [u8], at: usize) -> usize
     ensures { λ _. ⌜ length (now (out .exit)) ≡ length (now (out .entry)) ⌝ }
 {
     text::put_bytes(out, at, b"\n")

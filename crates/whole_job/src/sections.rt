@@ -9,19 +9,19 @@ use numbers::Numbers;
 use words::least;
 
 // The sections, in their order.
-pub const JOB: usize = 0;
+pub(crate) const JOB: usize = 0;
 
-pub const POINTS: usize = 1;
+pub(crate) const POINTS: usize = 1;
 
-pub const A: usize = 2;
+pub(crate) const A: usize = 2;
 
-pub const B: usize = 3;
+pub(crate) const B: usize = 3;
 
-pub const MASKS_A: usize = 4;
+pub(crate) const MASKS_A: usize = 4;
 
-pub const MASKS_B: usize = 5;
+pub(crate) const MASKS_B: usize = 5;
 
-pub const ANSWERS: usize = 6;
+pub(crate) const ANSWERS: usize = 6;
 
 // How many sections there are.
 const SECTIONS: usize = 7;
@@ -114,7 +114,7 @@ fn say_fault(text: &[u8], at: usize) {
 }
 
 // Prints how many numbers a section has and needs, and the line of its word.
-pub fn say_count(section: usize, has: usize, needs: usize, line: usize)
+pub(crate) fn say_count(section: usize, has: usize, needs: usize, line: usize)
     requires { ⌜ section < 7 ⌝ }
 {
     say(b"SECTION ");
@@ -134,7 +134,7 @@ fn front_of(text: &[u8], count: usize) -> &[u8] {
 }
 
 // The text from a place on; nothing past its end.
-pub fn rest_of(text: &[u8], at: usize) -> &[u8] {
+pub(crate) fn rest_of(text: &[u8], at: usize) -> &[u8] {
     let n = least(at, text.len());
     &text[n..]
 }
@@ -147,7 +147,7 @@ fn further(at: usize, more: usize) -> usize
 }
 
 // The numbers of a section; the next one starts where it ends.
-pub fn numbers_of<'a>(numbers: &'a [u32], starts: &[usize; 8], section: usize) -> &'a [u32]
+pub(crate) fn numbers_of<'a>(numbers: &'a [u32], starts: &[usize; 8], section: usize) -> &'a [u32]
     requires { ⌜ section < 7 ⌝ }
 {
     let end = least(starts[section + 1], numbers.len());
@@ -188,7 +188,7 @@ fn read_section(text: &[u8], section: usize, at: usize, numbers: &mut [u32], cou
 
 // Reads all sections: where the numbers of each start and end, and the line of its word. Tells whether the text is as it
 // should be, and prints the first thing that is wrong.
-pub fn read_sections(
+pub(crate) fn read_sections(
     text: &[u8],
     numbers: &mut [u32],
     starts: &mut [usize; 8],

@@ -140,7 +140,7 @@ fn decode_into(job: Job, points: &[u32], heard: u64, store: &[u32], table: &mut 
 }
 
 // Decodes and prints the table.
-pub fn say_table(job: Job, points: &[u32], heard: u64, store: &[u32]) {
+pub(crate) fn say_table(job: Job, points: &[u32], heard: u64, store: &[u32]) {
     let mut table = element_room();
     let n = least(area(job.t, job.r), MOST_ELEMENTS);
     decode_into(job, points, heard, store, &mut table[..n]);
