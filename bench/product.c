@@ -1,7 +1,7 @@
 /*
  * The product of two 64 by 64 blocks, modulo 257 and modulo 65537, timed in one run:
  *
- *   library     mukerihe_product of libhost.a, big-endian bytes in and out
+ *   library     mukerihe_product of libmukerihe.a, big-endian bytes in and out
  *   FLINT       nmod_mat_mul on matrices that are filled beforehand
  *   plain Rust  plain_product of docs/src/plain, the library's job and bytes
  *

@@ -1,7 +1,7 @@
 #!/usr/bin/env bash
 # Makes every figure of docs/BENCHMARKS.md: the product beside FLINT, then every stage beside plain Rust.
 #
-#   bench/run.sh [FOLDER]    FOLDER has libhost.a and libstages.a; without it they are proved and built
+#   bench/run.sh [FOLDER]    FOLDER has libmukerihe.a and libbench_stages.a; without it they are proved and built
 #
 # It needs gcc and rustc, and installs Debian's libflint-dev where that is missing.
 set -euo pipefail
@@ -9,8 +9,8 @@ cd "$(dirname "$0")/.."
 
 library=${1:-target/staticlib}
 if [ $# -eq 0 ]; then
-    rt staticlib host
-    rt staticlib stages
+    rt staticlib mukerihe
+    rt staticlib bench_stages
 fi
 
 bash bench/product.sh "$library"
@@ -21,5 +21,5 @@ trap 'rm -rf "$room"' EXIT
 build=(rustc --edition 2021 -D warnings -C opt-level=3)
 "${build[@]}" --crate-type rlib --crate-name plain docs/src/plain/lib.rs --out-dir "$room"
 "${build[@]}" bench/stages/main.rs --extern plain="$room/libplain.rlib" \
-    -L native="$library" -l static=stages -l static=host -o "$room/stages"
+    -L native="$library" -l static=bench_stages -l static=mukerihe -o "$room/stages"
 "$room/stages"

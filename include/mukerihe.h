@@ -2,7 +2,7 @@
  * mukerihe.h: a host's product of its two shares.
  *
  * A host holds a share of A and a share of B and sends back their product modulo a prime q.
- * The function below makes that product. It is the whole of the library libhost.a.
+ * The function below makes that product. It is the whole of the library libmukerihe.a.
  */
 #ifndef MUKERIHE_H
 #define MUKERIHE_H

@@ -1,7 +1,7 @@
 //! The static library against a plain product, on random calls that are fit or refused. Around the
 //! output lie bytes that no call may change, and a refused call may not change the output.
 //!
-//! Build it with `-L native=target/staticlib -l static=host`.
+//! Build it with `-L native=target/staticlib -l static=mukerihe`.
 
 use std::collections::BTreeMap;
 use std::ptr::{null, null_mut};

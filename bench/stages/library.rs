@@ -1,4 +1,4 @@
-//! The library's calls: the functions of libstages.a and of libhost.a.
+//! The library's calls: the functions of libbench_stages.a and of libmukerihe.a.
 
 use crate::calls::{Answer, Calls};
 use plain::message::Header;

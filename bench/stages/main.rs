@@ -10,7 +10,7 @@
 //!   cases     what is timed
 //!   report    the tables
 //!
-//! Link it with libstages.a, libhost.a and the plain Rust program of docs/src/plain.
+//! Link it with libbench_stages.a, libmukerihe.a and the plain Rust program of docs/src/plain.
 
 mod agree;
 mod calls;

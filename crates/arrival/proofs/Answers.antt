@@ -24,11 +24,11 @@ use Rattle.plan.specs.declared.Job.{Job}
 use Rattle.plan.specs.declared.Planned.the-variants.{Refused as Planned·Refused}
 use Rattle.plan.specs.Planning.{blockRows, blockColumns, planTests, planned}
 use Rattle.plan.proofs.Then.{then-refused, then-own}
-use Rattle.header.specs.declared.Header.{Header}
-use Rattle.header.specs.Header.{headerTests, headerOf, elementCount, kindTest, hostTest, fieldTests}
+use Rattle.message_header.specs.declared.Header.{Header}
+use Rattle.message_header.specs.Header.{headerTests, headerOf, elementCount, kindTest, hostTest, fieldTests}
 use Rattle.message.specs.Format.{elements, messageTests}
 use Rattle.message.proofs.Fields.{readable}
-use Rattle.heard.specs.Heard.{isHeard, withPlace, someAbove}
+use Rattle.arrival_heard.specs.Heard.{isHeard, withPlace, someAbove}
 use Rattle.arrival.specs.declared.Arrived.the-variants.{Taken, Refused}
 use Rattle.arrival.specs.Arriving.{answerLength, storeLength, withBlock, place, foreign, stateTests, ownTests, arrivalTests, arrived, storeAfter}
 

@@ -7,8 +7,8 @@ use Prim.Native.Nat.{ℕ, _+_, _*_, _≤_}
 use native.Mathlib.Omega.{arith}
 use lib.ListN.{length, take, drop, length-drop, drop-of-length-le}
 use lib.Seq.{length-take-le, drop-drop}
-use Rattle.big_endian.specs.Bytes.{elementsOf, common}
-use Rattle.header.specs.Header.{headerOf, elementCount}
+use Rattle.message_bytes.specs.Bytes.{elementsOf, common}
+use Rattle.message_header.specs.Header.{headerOf, elementCount}
 use Rattle.message.specs.Format.{elements}
 use Rattle.message.proofs.Parts.{Rest, read-part}
 use Rattle.arrival.specs.Arriving.{withBlock}

@@ -21,10 +21,10 @@ use lib.ListN.{length, take, drop}
 use Rattle.refusal.specs.Chain.{Row, first, answer}
 use Rattle.plan.specs.declared.Job.{Job}
 use Rattle.plan.specs.Planning.{blockRows, blockColumns, planTests}
-use Rattle.header.specs.declared.Header.{Header}
-use Rattle.header.specs.Header.{headerOf}
+use Rattle.message_header.specs.declared.Header.{Header}
+use Rattle.message_header.specs.Header.{headerOf}
 use Rattle.message.specs.Format.{elements, messageTests}
-use Rattle.heard.specs.Heard.{isHeard, withPlace, someAbove}
+use Rattle.arrival_heard.specs.Heard.{isHeard, withPlace, someAbove}
 use Rattle.arrival.specs.declared.Arrived.{Arrived}
 use Rattle.arrival.specs.declared.Arrived.the-variants.{Taken, Refused}
 

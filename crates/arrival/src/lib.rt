@@ -5,11 +5,11 @@ ghost use Prim.Native.Nat.{ℕ, _+_, _*_, _≤_};
 ghost use lib.ListN.{length};
 ghost use Rattle.refusal.specs.Chain.{first};
 ghost use Rattle.plan.specs.Planning.{blockRows, blockColumns, planTests};
-ghost use Rattle.header.specs.Header.{headerOf, elementCount};
+ghost use Rattle.message_header.specs.Header.{headerOf, elementCount};
 ghost use Rattle.message.specs.Format.{elements};
 ghost use Rattle.arrival.specs.Arriving.{answerLength, withBlock, foreign, stateTests, ownTests, arrived, storeAfter};
-use header::Header;
-use header::Reading;
+use message_header::Header;
+use message_header::Reading;
 use plan::Job;
 use plan::Planned;
 use refusal::either;
@@ -38,7 +38,7 @@ fn state_refusal(job: Job, size: usize, heard: u64, room: usize) -> u32
     requires { ⌜ size ≡ answerLength job × size ≤ 4096 × job .hosts ≤ 64 ⌝ }
     ensures { λ r. ⌜ r ≡ first (stateTests job heard room) ⌝ }
 {
-    if heard::some_above(job.hosts, heard) {
+    if arrival_heard::some_above(job.hosts, heard) {
         return refusal::HEARD_ABOVE;
     }
     if room != job.hosts as usize * size {
@@ -53,7 +53,7 @@ fn own_refusal(job: Job, rows: u32, columns: u32, heard: u64, h: Header) -> u32
     ensures { λ r. ⌜ ((message : List ℕ) → h ≡ headerOf message → r ≡ first (ownTests job heard message)) ⌝ }
 {
     let foreign = foreign_test(job, rows, columns, h);
-    let again = heard::is_heard(heard, h.host - 1);
+    let again = arrival_heard::is_heard(heard, h.host - 1);
     if foreign {
         return refusal::FOREIGN;
     }
@@ -75,7 +75,7 @@ fn put_block(place: usize, size: usize, message: &[u8], store: &mut [u32])
 {
     let start = place * size;
     let end = start + size;
-    big_endian::read_elements(&message[header::HEADER_BYTES..], &mut store[start..end]);
+    message_bytes::read_elements(&message[message_header::HEADER_BYTES..], &mut store[start..end]);
 }
 
 // Takes a message when the plan, the hosts heard and the store have passed: its block is written and its host counts as heard,

@@ -31,10 +31,10 @@ use Rattle.algebra.proofs.Places.{pointsAt}
 use Rattle.refusal.specs.Chain.{first, answer}
 use Rattle.refusal.proofs.Chains.{first-clear, first-append-clear, answer-done, answer-refused, inside}
 use Rattle.field.specs.Modulus.{prime as Modulus·prime}
-use Rattle.pieces.specs.declared.Shape.{Shape}
-use Rattle.pieces.specs.Pieces.{blockCount, blockLength, pieceCount, pieceSum, piecesOf, sizesTest, misfit, tableAfter as Pieces·tableAfter, Sized}
-use Rattle.pieces.proofs.Pieces.{piece-fits}
-use Rattle.pieces.proofs.Fits.{table-made}
+use Rattle.decode_table.specs.declared.Shape.{Shape}
+use Rattle.decode_table.specs.Pieces.{blockCount, blockLength, pieceCount, pieceSum, piecesOf, sizesTest, misfit, tableAfter as Pieces·tableAfter, Sized}
+use Rattle.decode_table.proofs.Pieces.{piece-fits}
+use Rattle.decode_table.proofs.Fits.{table-made}
 use Rattle.layout.specs.Exponents.{Exponents, exponents}
 use Rattle.plan.specs.declared.Job.{Job}
 use Rattle.plan.specs.declared.Plan.{Plan}
@@ -42,8 +42,8 @@ use Rattle.plan.specs.Planning.{prime, parameters, layoutOf, neededOf, blockRow
 use Rattle.plan.proofs.Facts.{Facts, Fits, facts}
 use Rattle.plan.proofs.Sizes.{sizes, place-below}
 use Rattle.plan.proofs.Then.{own-prime, plan-numbered}
-use Rattle.heard.specs.Heard.{someAbove, lowest}
-use Rattle.heard.proofs.Bits.{ones-size, lowest-within}
+use Rattle.arrival_heard.specs.Heard.{someAbove, lowest}
+use Rattle.arrival_heard.proofs.Bits.{ones-size, lowest-within}
 use Rattle.arrival.specs.Arriving.{answerLength, storeLength, blockAt}
 use Rattle.decode.specs.Decoding.{answerEntry, chosen, tableEntry, blocks, tableOf, tableLength, heardBelow, decodeTests, tableAfter}
 use Rattle.decode.specs.Weights.{ownTests, Limited, shape, weightsOf, Roomy}

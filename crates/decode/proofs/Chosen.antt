@@ -16,7 +16,7 @@ use Rattle.algebra.proofs.Places.{points-each, points-apart}
 use Rattle.plan.specs.declared.Job.{Job}
 use Rattle.plan.specs.Planning.{prime, neededOf}
 use Rattle.plan.proofs.Facts.{Facts}
-use Rattle.heard.specs.Heard.{isHeard, lowest}
+use Rattle.arrival_heard.specs.Heard.{isHeard, lowest}
 use Rattle.decode.specs.Decoding.{chosen}
 
 pub record Chosen (job : Job) (points : List ℕ) (heard : ℕ) : Type 0 where

@@ -11,7 +11,7 @@ use native.Mathlib.Nat.{not-suc-le-zero, le-of-suc-le-suc, eq-or-lt-of-le}
 use native.Mathlib.Numerals.{add-one}
 use Rattle.algebra.specs.Lists.{AllBelow, allBelow}
 use Rattle.algebra.proofs.Lists.{all-below-test}
-use Rattle.heard.specs.Heard.{isHeard}
+use Rattle.arrival_heard.specs.Heard.{isHeard}
 use Rattle.arrival.specs.Arriving.{blockAt}
 use Rattle.decode.specs.Decoding.{heardBelow}
 

@@ -22,11 +22,11 @@ use Rattle.algebra.proofs.Stacks.{stack-cong, stack-grid}
 use Rattle.algebra.proofs.Modular.{≈-trans, ≈-of-eq, ≈-mod, ≈-mul}
 use Rattle.algebra.proofs.Sums.{sum-≈}
 use Rattle.algebra.proofs.Places.{pointsAt}
-use Rattle.interpolation.proofs.Weights.{basis-by-division}
+use Rattle.decode_basis.proofs.Weights.{basis-by-division}
 use Rattle.layout.specs.Exponents.{Exponents}
-use Rattle.pieces.specs.declared.Shape.{Shape}
-use Rattle.pieces.specs.Pieces.{blockCount, blockLength, pieceCount, pieceBlock, pieceRow, answerTerms, pieceSum, Sized}
-use Rattle.pieces.proofs.Pieces.{Placed, placed}
+use Rattle.decode_table.specs.declared.Shape.{Shape}
+use Rattle.decode_table.specs.Pieces.{blockCount, blockLength, pieceCount, pieceBlock, pieceRow, answerTerms, pieceSum, Sized}
+use Rattle.decode_table.proofs.Pieces.{Placed, placed}
 use Rattle.decode.specs.Decoding.{blocks}
 use Rattle.decode.specs.Weights.{hostWeight, weightsOf}
 

@@ -24,7 +24,7 @@ use Rattle.refusal.specs.Chain.{Row, first, answer}
 use Rattle.layout.specs.Exponents.{exponents}
 use Rattle.plan.specs.declared.Job.{Job}
 use Rattle.plan.specs.Planning.{prime, parameters, layoutOf, neededOf, blockRows, blockColumns, planTests}
-use Rattle.heard.specs.Heard.{isHeard, someAbove, lowest}
+use Rattle.arrival_heard.specs.Heard.{isHeard, someAbove, lowest}
 use Rattle.arrival.specs.Arriving.{answerLength, storeLength, blockAt}
 
 unfoldable pub answerEntry : Job → List ℕ → ℕ → ℕ → ℕ → ℕ

@@ -18,14 +18,14 @@ use lib.ListN.{length, getD}
 use Rattle.algebra.specs.Lists.{grid}
 use Rattle.refusal.specs.Chain.{Row}
 use Rattle.field.specs.Modulus.{prime as Modulus·prime}
-use Rattle.pieces.specs.declared.Shape.{Shape}
-use Rattle.pieces.specs.Pieces.{blockCount}
-use Rattle.interpolation.specs.Basis.{coefficients, product, quotient, basisScale}
+use Rattle.decode_table.specs.declared.Shape.{Shape}
+use Rattle.decode_table.specs.Pieces.{blockCount}
+use Rattle.decode_basis.specs.Basis.{coefficients, product, quotient, basisScale}
 use Rattle.layout.specs.Exponents.{Exponents, exponents}
 use Rattle.plan.specs.declared.Job.{Job}
 use Rattle.plan.specs.declared.Plan.{Plan}
 use Rattle.plan.specs.Planning.{prime, neededOf, blockRows, blockColumns, planOf}
-use Rattle.heard.specs.Heard.{someAbove}
+use Rattle.arrival_heard.specs.Heard.{someAbove}
 use Rattle.arrival.specs.Arriving.{answerLength, storeLength}
 use Rattle.decode.specs.Decoding.{tableLength, heardBelow}
 

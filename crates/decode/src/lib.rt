@@ -6,14 +6,14 @@ ghost use lib.ListN.{length, getD};
 ghost use Rattle.algebra.specs.Lists.{tab, AllBelow};
 ghost use Rattle.refusal.specs.Chain.{first};
 ghost use Rattle.field.specs.Modulus.{prime};
-ghost use Rattle.pieces.specs.Pieces.{blockCount};
+ghost use Rattle.decode_table.specs.Pieces.{blockCount};
 ghost use Rattle.layout.specs.Exponents.{exponents};
 ghost use Rattle.plan.specs.Planning.{planOf};
 ghost use Rattle.decode.specs.Decoding.{heardBelow, decodeTests, tableOf, tableAfter};
 ghost use Rattle.decode.specs.Weights.{ownTests, Limited, shape, Roomy, hostWeight, weightsOf};
 use field::Modulus;
 use layout::Series;
-use pieces::Shape;
+use decode_table::Shape;
 use plan::Job;
 use plan::Plan;
 use plan::Planned;
@@ -41,10 +41,10 @@ fn heard_below(modulus: Modulus, size: usize, heard: u64, store: &[u32], hosts: 
     let mut over = false;
     let mut place = 0;
     while place < hosts {
-        if heard::is_heard(heard, place) {
+        if arrival_heard::is_heard(heard, place) {
             let start = place as usize * size;
             let end = start + size;
-            over = either(over, !elements::all_below(modulus, &store[start..end]));
+            over = either(over, !field::all_below(modulus, &store[start..end]));
         }
         place += 1;
     }
@@ -58,7 +58,7 @@ fn own_refusal(job: Job, plan: Plan, heard: u64, store: &[u32], room: usize) -> 
 {
     let modulus = plan.modulus;
     let size = plan.rows as usize * plan.columns as usize;
-    if heard::some_above(job.hosts, heard) {
+    if arrival_heard::some_above(job.hosts, heard) {
         return refusal::HEARD_ABOVE;
     }
     if either(
@@ -102,8 +102,8 @@ fn host_weights(plan: Plan, x: u32, points: &[u32], roots: &[u32], out: &mut [u3
     let across = g.n as usize;
     let count = points.len();
     let mut quotient = [0u32; MOST_HOSTS];
-    interpolation::divide_root(modulus, roots, x, &mut quotient[..count]);
-    let scale = interpolation::basis_scale(modulus, x, points);
+    decode_basis::divide_root(modulus, roots, x, &mut quotient[..count]);
+    let scale = decode_basis::basis_scale(modulus, x, points);
     let mut b = 0;
     while b < out.len() {
         let row = (b / across) as u8;
@@ -125,7 +125,7 @@ fn decoding_weights(plan: Plan, points: &[u32], weights: &mut [u32])
     let size = g.m as usize * g.n as usize;
     let count = points.len() + 1;
     let mut roots = [0u32; MOST_ROOTS];
-    interpolation::from_roots(modulus, points, &mut roots[..count]);
+    decode_basis::from_roots(modulus, points, &mut roots[..count]);
     let mut c = 0;
     while c < points.len() {
         let start = c * size;
@@ -170,10 +170,10 @@ fn decode_chosen(
     let mut point_room = [0u32; MOST_HOSTS];
     let places = &mut place_room[..needed];
     let chosen = &mut point_room[..needed];
-    heard::lowest_heard(heard, places);
+    arrival_heard::lowest_heard(heard, places);
     points_at(points, places, chosen);
     decoding_weights(plan, chosen, weights);
-    pieces::table_pieces(modulus, s, places, weights, store, sums, table);
+    decode_table::table_pieces(modulus, s, places, weights, store, sums, table);
 }
 
 // The table of a call that no test refuses, with few weights and sums or the most.

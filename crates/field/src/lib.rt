@@ -1,6 +1,7 @@
-// The prime field: modulus numbers, products and powers.
+// The prime field: modulus numbers, elements, products and powers.
 ghost use mathlib.Core.Path.{_≡_};
 ghost use Prim.Native.Nat.{_*_, _^_, _%_};
+ghost use Rattle.algebra.specs.Lists.{allBelow};
 ghost use Rattle.field.specs.Modulus.{prime, named};
 
 // The moduli of 01: each is the prime in its name.
@@ -37,6 +38,20 @@ pub fn prime_of(modulus: Modulus) -> u32
         Modulus::Q257 => 257,
         Modulus::Q65537 => 65537,
     }
+}
+
+// Every element is below the prime. The loop has no early end, so that several elements can be compared at once.
+pub fn all_below(modulus: Modulus, xs: &[u32]) -> bool
+    ensures { λ r. ⌜ r ≡ allBelow (prime modulus) (now (xs .entry)) ⌝ }
+{
+    let q = prime_of(modulus);
+    let mut over = false;
+    let mut i = 0;
+    while i < xs.len() {
+        over = over | (q <= xs[i]);
+        i += 1;
+    }
+    !over
 }
 
 // A number modulo the prime: each remainder is by a constant.

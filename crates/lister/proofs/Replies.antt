@@ -14,9 +14,9 @@ use Rattle.algebra.specs.Lists.{tab}
 use Rattle.plan.specs.declared.Planned.{Planned}
 use Rattle.plan.specs.Planning.{planned}
 use Rattle.text.specs.Decimal.{put}
-use Rattle.line.specs.declared.Line.{Line}
-use Rattle.line.specs.Line.{lineOf}
-use Rattle.line.proofs.Lines.{line-back, lines}
+use Rattle.lister_line.specs.declared.Line.{Line}
+use Rattle.lister_line.specs.Line.{lineOf}
+use Rattle.lister_line.proofs.Lines.{line-back, lines}
 use Rattle.lister.specs.Listing.{refusedText, jobOf, told, reply, listing}
 use Rattle.lister.specs.Prints.{Prints}
 use Rattle.lister.specs.Writing.{Writes}

@@ -25,7 +25,7 @@ use Rattle.plan.specs.Planning.{parameters, modulusOf, layoutOf, neededOf, plan
 use Rattle.plan.proofs.Facts.{Fits, facts}
 use Rattle.text.specs.Decimal.{decimal}
 use Rattle.text.proofs.Decimals.{decimal-length, decimal-short}
-use Rattle.line.specs.Line.{lineOf}
+use Rattle.lister_line.specs.Line.{lineOf}
 use Rattle.lister.specs.Listing.{ascii, value, values, line, sideLine, numberLines, aLine, bLine, cLine, planText, refusedText, jobOf, told, reply, listing}
 use Rattle.lister.proofs.Writes.{row-more, grid-more, line-one}
 

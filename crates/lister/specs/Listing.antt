@@ -29,7 +29,7 @@ use Rattle.plan.specs.declared.Planned.{Planned}
 use Rattle.plan.specs.declared.Planned.the-variants.{Accepted, Refused}
 use Rattle.plan.specs.Planning.{planned}
 use Rattle.text.specs.Decimal.{decimal}
-use Rattle.line.specs.Line.{lineOf}
+use Rattle.lister_line.specs.Line.{lineOf}
 use Rattle.layout.specs.declared.Series.the-variants.{BlocksA, MasksA, BlocksB, MasksB, Places}
 
 abbrev pub ascii : String → List ℕ

@@ -6,7 +6,7 @@ use mathlib.Core.Path.{_≡_}
 use mathlib.Core.List.{List}
 use Prim.Native.Nat.{ℕ, _≤_}
 use lib.ListN.{length}
-use Rattle.line.specs.Line.{IsLine}
+use Rattle.lister_line.specs.Line.{IsLine}
 use Rattle.lister.specs.Listing.{refusedText, jobOf, reply, listing}
 
 pub record Prints : Type 0 where

@@ -228,7 +228,7 @@ pub fn list(input: &[u8], out: &mut [u8; 4096]) -> usize
     ensures length { λ r. ⌜ r ≡ length (listing (now (input .entry))) ⌝ }
     ensures text { λ _. ⌜ now (out .exit) ≡ put (now (out .entry)) 0 (listing (now (input .entry))) ⌝ }
 {
-    let line = line::read_line(input);
+    let line = lister_line::read_line(input);
     if !line.ok {
         return put_refused(out, refusal::TEXT);
     }

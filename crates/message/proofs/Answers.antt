@@ -14,9 +14,9 @@ use lib.ListN.{length, drop}
 use borrow.Author.Tests.{lt-ltb, le-ltb}
 use Rattle.refusal.specs.Chain.{first, answer, done, refused}
 use Rattle.refusal.proofs.Chains.{first-hit, first-miss, answer-done, answer-refused, answer-map}
-use Rattle.header.specs.declared.Header.{Header}
-use Rattle.header.specs.declared.Reading.the-variants.{Done, Refused}
-use Rattle.header.specs.Header.{headerOf, elementCount, fields, told}
+use Rattle.message_header.specs.declared.Header.{Header}
+use Rattle.message_header.specs.declared.Reading.the-variants.{Done, Refused}
+use Rattle.message_header.specs.Header.{headerOf, elementCount, fields, told}
 use Rattle.message.specs.Format.{messageOf, elements, writeTests, messageTests, readTests, written, examined, readAs, readInto}
 
 module _ (h : Header) (xs out : List ℕ) where

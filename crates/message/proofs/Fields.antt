@@ -19,10 +19,10 @@ use Rattle.algebra.proofs.Tests.{or-left, or-right, equal}
 use Rattle.refusal.specs.Chain.{first}
 use Rattle.refusal.proofs.Chains.{first-clear, first-append-clear}
 use Rattle.field.specs.Modulus.{modulus}
-use Rattle.header.specs.declared.Header.{Header}
-use Rattle.header.specs.Header.{headerOf, elementCount, fieldTests, headerTests}
-use Rattle.header.proofs.Tests.{fields-numbered, header-numbered}
-use Rattle.header.proofs.Fields.{Ranged, Headed, headed, heads}
+use Rattle.message_header.specs.declared.Header.{Header}
+use Rattle.message_header.specs.Header.{headerOf, elementCount, fieldTests, headerTests}
+use Rattle.message_header.proofs.Tests.{fields-numbered, header-numbered}
+use Rattle.message_header.proofs.Fields.{Ranged, Headed, headed, heads}
 use Rattle.message.specs.Format.{elements, elementTest, writeLengthTest, writeTests, lengthTest, messageTests}
 use Rattle.message.proofs.Tests.{write-none, told-none}
 

@@ -13,11 +13,11 @@ use lib.Seq.{take-length, take-at}
 use Rattle.text.specs.Decimal.{put}
 use Rattle.text.proofs.Puts.{put-fits, length-put}
 use Rattle.algebra.proofs.Lists.{rest-is}
-use Rattle.big_endian.specs.Bytes.{bytesOf, elementsOf, common}
-use Rattle.big_endian.proofs.Words.{written-exact}
-use Rattle.header.specs.declared.Header.{Header}
-use Rattle.header.specs.Header.{header, headerOf, elementCount}
-use Rattle.header.proofs.Headers.{length-header}
+use Rattle.message_bytes.specs.Bytes.{bytesOf, elementsOf, common}
+use Rattle.message_bytes.proofs.Words.{written-exact}
+use Rattle.message_header.specs.declared.Header.{Header}
+use Rattle.message_header.specs.Header.{header, headerOf, elementCount}
+use Rattle.message_header.proofs.Headers.{length-header}
 use Rattle.message.specs.Format.{messageOf, payload, elements}
 
 abbrev pub Rest : List ℕ → List ℕ

@@ -17,15 +17,15 @@ use Rattle.algebra.specs.Lists.{AllBelow}
 use Rattle.algebra.proofs.Lists.{below-append}
 use Rattle.algebra.proofs.Orders.{le-or-lt}
 use Rattle.refusal.specs.Chain.{first, done}
-use Rattle.big_endian.specs.Bytes.{bytesOf, elementsOf}
-use Rattle.big_endian.proofs.Bytes.{length-bytesOf, bytesOf-bytes, elements-of-bytes, bytes-of-elements}
-use Rattle.big_endian.proofs.Words.{length-elements}
-use Rattle.header.specs.declared.Header.{Header}
-use Rattle.header.specs.declared.Reading.the-variants.{Done, Refused}
-use Rattle.header.specs.Header.{header, headerOf, elementCount, fieldTests, fields, told}
-use Rattle.header.proofs.Fields.{Ranged, ranged}
-use Rattle.header.proofs.Headers.{length-header, header-bytes, mark-header, version-header, headerOf-header, header-headerOf}
-use Rattle.header.proofs.Answers.{done-by, done-told, told-done}
+use Rattle.message_bytes.specs.Bytes.{bytesOf, elementsOf}
+use Rattle.message_bytes.proofs.Bytes.{length-bytesOf, bytesOf-bytes, elements-of-bytes, bytes-of-elements}
+use Rattle.message_bytes.proofs.Words.{length-elements}
+use Rattle.message_header.specs.declared.Header.{Header}
+use Rattle.message_header.specs.declared.Reading.the-variants.{Done, Refused}
+use Rattle.message_header.specs.Header.{header, headerOf, elementCount, fieldTests, fields, told}
+use Rattle.message_header.proofs.Fields.{Ranged, ranged}
+use Rattle.message_header.proofs.Headers.{length-header, header-bytes, mark-header, version-header, headerOf-header, header-headerOf}
+use Rattle.message_header.proofs.Answers.{done-by, done-told, told-done}
 use Rattle.message.specs.Format.{messageOf, payload, elements, elementTest, writeTests, messageTests, written, examined, readAs, readInto}
 use Rattle.message.specs.RoundTrips.{ReadsBack, IsWritten, RoundTrips}
 use Rattle.message.proofs.Fields.{Writable, writable, writes, Readable, readable, reads, small}

@@ -15,9 +15,9 @@ use Rattle.field.specs.declared.Modulus.{Modulus}
 use Rattle.field.specs.declared.Named.the-variants.{Is}
 use Rattle.field.specs.Modulus.{prime, named}
 use Rattle.field.proofs.Moduli.{known}
-use Rattle.header.specs.declared.Header.{Header}
-use Rattle.header.specs.Header.{headerOf, fieldTests, headerTests}
-use Rattle.header.proofs.Tests.{fields-numbered, header-numbered}
+use Rattle.message_header.specs.declared.Header.{Header}
+use Rattle.message_header.specs.Header.{headerOf, fieldTests, headerTests}
+use Rattle.message_header.proofs.Tests.{fields-numbered, header-numbered}
 use Rattle.message.specs.Format.{elements, elementTest, writeLengthTest, writeTests, lengthTest, messageTests}
 
 pub element-named : (n : ℕ) {m : Modulus} (xs : List ℕ) → named n ≡ Is m → elementTest n xs ≡ not (allBelow (prime m) xs)

@@ -17,11 +17,11 @@ use lib.ListN.{length, drop}
 use Rattle.algebra.specs.Lists.{allBelow}
 use Rattle.refusal.specs.Chain.{Row, first, answer}
 use Rattle.field.specs.Modulus.{modulus}
-use Rattle.big_endian.specs.Bytes.{bytesOf, elementsOf}
-use Rattle.header.specs.declared.Header.{Header}
-use Rattle.header.specs.declared.Reading.{Reading}
-use Rattle.header.specs.declared.Reading.the-variants.{Done, Refused}
-use Rattle.header.specs.Header.{header, headerOf, elementCount, fieldTests, headerTests}
+use Rattle.message_bytes.specs.Bytes.{bytesOf, elementsOf}
+use Rattle.message_header.specs.declared.Header.{Header}
+use Rattle.message_header.specs.declared.Reading.{Reading}
+use Rattle.message_header.specs.declared.Reading.the-variants.{Done, Refused}
+use Rattle.message_header.specs.Header.{header, headerOf, elementCount, fieldTests, headerTests}
 
 unfoldable pub messageOf : Header → List ℕ → List ℕ
 messageOf h xs = header h ++ bytesOf xs

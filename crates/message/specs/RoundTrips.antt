@@ -11,8 +11,8 @@ use Prim.Native.Nat.{ℕ, _+_, _*_, _^_, _<_, _≤_}
 use lib.ListN.{length, take, drop}
 use Rattle.algebra.specs.Lists.{AllBelow}
 use Rattle.refusal.specs.Chain.{first, done}
-use Rattle.header.specs.declared.Header.{Header}
-use Rattle.header.specs.Header.{headerOf, elementCount, fields, told}
+use Rattle.message_header.specs.declared.Header.{Header}
+use Rattle.message_header.specs.Header.{headerOf, elementCount, fields, told}
 use Rattle.message.specs.Format.{messageOf, elements, writeTests, messageTests, written, readAs, readInto}
 
 pub record ReadsBack (h : Header) (xs : List ℕ) : Type 0 where

@@ -4,9 +4,9 @@ ghost use lib.ListN.{length};
 ghost use Rattle.refusal.specs.Chain.{first};
 ghost use Rattle.message.specs.Format.{writeTests, written, examined, readAs, readInto};
 use field::Named;
-use header::HEADER_BYTES;
-use header::Header;
-use header::Reading;
+use message_header::HEADER_BYTES;
+use message_header::Header;
+use message_header::Reading;
 use refusal::either;
 
 // How many elements the output of reading has room for at least.
@@ -16,7 +16,7 @@ const READ_ROOM: usize = 4096;
 fn write_refusal(h: Header, xs: &[u32], room: usize) -> u32
     ensures { λ r. ⌜ r ≡ first (writeTests h (now (xs .entry)) room) ⌝ }
 {
-    let fields = header::field_refusal(h);
+    let fields = message_header::field_refusal(h);
     if fields != 0 {
         return fields;
     }
@@ -27,7 +27,7 @@ fn write_refusal(h: Header, xs: &[u32], room: usize) -> u32
     if either(xs.len() != count, room != HEADER_BYTES + 4 * count) {
         return refusal::LENGTH;
     }
-    if !elements::all_below(modulus, xs) {
+    if !field::all_below(modulus, xs) {
         return refusal::ELEMENT;
     }
     0
@@ -42,9 +42,9 @@ pub fn write_message(h: Header, xs: &[u32], out: &mut [u8]) -> u32
     if refused != 0 {
         return refused;
     }
-    let head = header::header_bytes(h);
+    let head = message_header::header_bytes(h);
     text::put_bytes(out, 0, &head);
-    big_endian::write_elements(xs, &mut out[HEADER_BYTES..]);
+    message_bytes::write_elements(xs, &mut out[HEADER_BYTES..]);
     0
 }
 
@@ -52,7 +52,7 @@ pub fn write_message(h: Header, xs: &[u32], out: &mut [u8]) -> u32
 pub fn examine(message: &[u8]) -> Reading
     ensures { λ r. ⌜ r ≡ examined (now (message .entry)) ⌝ }
 {
-    let head = header::read_header(message);
+    let head = message_header::read_header(message);
     let Reading::Done(h) = head else {
         return head;
     };
@@ -62,7 +62,7 @@ pub fn examine(message: &[u8]) -> Reading
     if message.len() != HEADER_BYTES + 4 * (h.rows * h.columns) as usize {
         return Reading::Refused(refusal::MESSAGE_LENGTH);
     }
-    if !elements::bytes_below(modulus, &message[HEADER_BYTES..]) {
+    if !message_bytes::bytes_below(modulus, &message[HEADER_BYTES..]) {
         return Reading::Refused(refusal::ELEMENT);
     }
     Reading::Done(h)
@@ -78,7 +78,7 @@ pub fn read_message(message: &[u8], out: &mut [u32]) -> Reading
     }
     let answer = examine(message);
     if let Reading::Done(_) = answer {
-        big_endian::read_elements(&message[HEADER_BYTES..], out);
+        message_bytes::read_elements(&message[HEADER_BYTES..], out);
     }
     answer
 }

@@ -20,11 +20,11 @@ use Rattle.algebra.proofs.Sums.{sum-cong}
 use Rattle.field.specs.declared.Modulus.{Modulus}
 use Rattle.field.specs.Modulus.{prime}
 use Rattle.sums.specs.Sums.{zeros, reduced}
-use Rattle.rows.specs.Combination.{combination, added}
+use Rattle.sums_rows.specs.Combination.{combination, added}
 use Rattle.sums.proofs.Reduced.{reduced-tab}
-use Rattle.rows.proofs.Exact.{combination-fits, added-zeros}
-use Rattle.pairs.specs.Packing.{packed, halves}
-use Rattle.pairs.proofs.Exact.{dot, halves-exact}
+use Rattle.sums_rows.proofs.Exact.{combination-fits, added-zeros}
+use Rattle.sums_packed.specs.Packing.{packed, halves}
+use Rattle.sums_packed.proofs.Exact.{dot, halves-exact}
 use Rattle.product.specs.Product.{productEntry, productOf}
 
 pub one-row : (m : Modulus) (row b sums out : List ℕ) → AllBelow (prime m) row → AllBelow (prime m) b → length row ≤ 4096 → length sums ≡ length out

@@ -44,8 +44,8 @@ fn element_test(modulus: Modulus, a: &[u32], b: &[u32]) -> bool
     ensures { λ r. ⌜ r ≡ (not (allBelow (prime modulus) (now (a .entry))) || not (allBelow (prime modulus) (now (b .entry)))) ⌝ }
 {
     either(
-        !elements::all_below(modulus, a),
-        !elements::all_below(modulus, b),
+        !field::all_below(modulus, a),
+        !field::all_below(modulus, b),
     )
 }
 
@@ -59,7 +59,7 @@ fn product_row(modulus: Modulus, row: &[u32], b: &[u32], sums: &mut [u64], out: 
         ≡ productOf (prime modulus) 1 (length (now (row .entry))) (length (now (out .entry))) (now (row .entry)) (now (b .entry)) ⌝ }
 {
     sums::clear(sums);
-    rows::add_rows(sums, row, b, out.len());
+    sums_rows::add_rows(sums, row, b, out.len());
     sums::reduce_row(modulus, sums, out);
 }
 
@@ -101,11 +101,11 @@ fn few_rows(
     }
     let columns = sums.len();
     let mut weights = [0u32; MOST_PACKED];
-    pairs::pack(part, &mut weights[..inner]);
+    sums_packed::pack(part, &mut weights[..inner]);
     sums::clear(sums);
-    rows::add_rows(sums, &weights[..inner], b, columns);
-    pairs::unpack(modulus, false, sums, &mut out[..columns]);
-    pairs::unpack(modulus, true, sums, &mut out[columns..]);
+    sums_rows::add_rows(sums, &weights[..inner], b, columns);
+    sums_packed::unpack(modulus, false, sums, &mut out[..columns]);
+    sums_packed::unpack(modulus, true, sums, &mut out[columns..]);
 }
 
 // The product of two shares of the right lengths, a few rows at a time. There is a sum for each column.

@@ -19,19 +19,19 @@ use Rattle.plan.proofs.Answers.{plan-told}
 use Rattle.plan.proofs.Then.{plan-numbered}
 use Rattle.share.specs.Sharing.{ownTests, shareTests, shareAfter}
 use Rattle.product.specs.Product.{productTests, productAfter}
-use Rattle.host.specs.Host.{hostTests, hostAfter}
-use Rattle.header.specs.Header.{headerTests, fieldTests}
+use Rattle.mukerihe.specs.Host.{hostTests, hostAfter}
+use Rattle.message_header.specs.Header.{headerTests, fieldTests}
 use Rattle.message.specs.Format.{writeTests, messageTests, readTests, written, readInto}
 use Rattle.message.proofs.Answers.{read-told}
 use Rattle.arrival.specs.declared.Arrived.the-variants.{Taken}
 use Rattle.arrival.specs.declared.Arrived.the-variants.{Refused as Arrived·Refused}
-use Rattle.heard.specs.Heard.{withPlace}
+use Rattle.arrival_heard.specs.Heard.{withPlace}
 use Rattle.arrival.specs.Arriving.{place, stateTests, arrivalTests, arrived, storeAfter, heardAfter}
 use Rattle.arrival.specs.Arriving.{ownTests as Arriving·ownTests, numberOf as Arriving·numberOf}
 use Rattle.decode.specs.Decoding.{decodeTests, tableAfter}
 use Rattle.field.proofs.Moduli.{told-named}
-use Rattle.signed.specs.Signed.{signedTests, elementTests}
-use Rattle.signed.proofs.Answers.{signed-told, element-told}
+use Rattle.field_signed.specs.Signed.{signedTests, elementTests}
+use Rattle.field_signed.proofs.Answers.{signed-told, element-told}
 use Rattle.promise.specs.Demand1.{row, Judged, Leaves, Tells, Demand1}
 
 pub judged : (rows : List Row) → T (numbered rows) → Judged rows (first rows)

@@ -32,9 +32,9 @@ use Rattle.plan.proofs.Facts.{Facts, facts}
 use Rattle.plan.proofs.Sizes.{sizes, place-below}
 use Rattle.share.specs.Sharing.{hostShare, shareOf, shareAfter}
 use Rattle.product.specs.Product.{productEntry, productOf, productAfter}
-use Rattle.big_endian.specs.Bytes.{bytesOf, elementsOf}
-use Rattle.big_endian.proofs.Bytes.{elements-of-bytes}
-use Rattle.host.specs.Host.{hostTests, hostProduct, hostAfter}
+use Rattle.message_bytes.specs.Bytes.{bytesOf, elementsOf}
+use Rattle.message_bytes.proofs.Bytes.{elements-of-bytes}
+use Rattle.mukerihe.specs.Host.{hostTests, hostProduct, hostAfter}
 use Rattle.message.proofs.RoundTrips.{round-trips}
 use Rattle.decode.specs.Decoding.{answerEntry, chosen, tableEntry, blocks, tableOf, tableLength, decodeTests, tableAfter}
 use Rattle.decode.proofs.Answers.{known, told, chosen-are}

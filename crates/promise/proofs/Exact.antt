@@ -26,10 +26,10 @@ use Rattle.plan.specs.declared.Job.{Job}
 use Rattle.plan.specs.Planning.{prime, parameters, layoutOf, neededOf, blockRows, blockInner, blockColumns, planOf}
 use Rattle.plan.proofs.Facts.{Facts, facts}
 use Rattle.plan.proofs.Sizes.{sizes, job-sound, place-below}
-use Rattle.weights.specs.declared.Matrix.the-variants.{A, B}
+use Rattle.share_side.specs.declared.Matrix.the-variants.{A, B}
 use Rattle.share.specs.Sharing.{point, hostShare}
 use Rattle.product.specs.Product.{productEntry, productOf}
-use Rattle.heard.specs.Heard.{isHeard}
+use Rattle.arrival_heard.specs.Heard.{isHeard}
 use Rattle.arrival.specs.Arriving.{answerLength, blockAt}
 use Rattle.decode.specs.Decoding.{answerEntry, chosen, tableEntry, blocks, tableOf}
 use Rattle.decode.proofs.Chosen.{Chosen, chosen-hosts}

@@ -19,8 +19,8 @@ use Rattle.algebra.proofs.Polynomials.{ev-tab}
 use Rattle.layout.specs.Exponents.{Exponents, term}
 use Rattle.layout.specs.Sound.{Sound}
 use Rattle.plan.specs.declared.Plan.{Plan}
-use Rattle.weights.specs.declared.Matrix.the-variants.{A, B}
-use Rattle.weights.specs.Weights.{side}
+use Rattle.share_side.specs.declared.Matrix.the-variants.{A, B}
+use Rattle.share_side.specs.Weights.{side}
 use Rattle.share.specs.Sharing.{blockEntry, maskEntry, shareEntry, shareOf}
 use Rattle.product.specs.Product.{productEntry, productOf}
 use Rattle.promise.proofs.ExactSums.{whole, Expands, expands-sum}

@@ -24,11 +24,11 @@ use Rattle.plan.specs.Planning.{prime, blockRows, blockColumns, planTests}
 use Rattle.plan.proofs.Facts.{facts}
 use Rattle.plan.proofs.Then.{plan-numbered}
 use Rattle.field.specs.Modulus.{modulus as Modulus·modulus}
-use Rattle.big_endian.proofs.Words.{length-elements}
+use Rattle.message_bytes.proofs.Words.{length-elements}
 use Rattle.message.proofs.Fields.{readable}
-use Rattle.header.specs.Header.{headerTests, headerOf, elementCount, fieldTests}
+use Rattle.message_header.specs.Header.{headerTests, headerOf, elementCount, fieldTests}
 use Rattle.message.specs.Format.{elements, elementTest, messageTests}
-use Rattle.heard.specs.Heard.{isHeard, someAbove}
+use Rattle.arrival_heard.specs.Heard.{isHeard, someAbove}
 use Rattle.arrival.proofs.Answers.{message-numbered}
 use Rattle.arrival.specs.Arriving.{answerLength, storeLength, place, foreign, stateTests, ownTests, arrivalTests}
 use Rattle.promise.specs.Demand3.{Task, Accepted, State, fit}

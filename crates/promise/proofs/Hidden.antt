@@ -20,9 +20,9 @@ use Rattle.plan.specs.declared.Job.{Job}
 use Rattle.plan.specs.Planning.{prime, parameters, layoutOf, planOf}
 use Rattle.plan.proofs.Facts.{Fits, Facts, facts}
 use Rattle.plan.proofs.Sizes.{job-sound}
-use Rattle.weights.specs.declared.Matrix.{Matrix}
-use Rattle.weights.specs.declared.Matrix.the-variants.{A, B}
-use Rattle.weights.specs.Weights.{side}
+use Rattle.share_side.specs.declared.Matrix.{Matrix}
+use Rattle.share_side.specs.declared.Matrix.the-variants.{A, B}
+use Rattle.share_side.specs.Weights.{side}
 use Rattle.share.specs.Sharing.{shareOf, point, hostShare}
 use Rattle.message.specs.Format.{messageOf}
 use Rattle.promise.specs.Demand3.{Task, SamePublic, Masks, Privacy, publicNumbers, largest, matrix, headerFor, shareHeader, shareMessage}

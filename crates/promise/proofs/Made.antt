@@ -32,18 +32,18 @@ use Rattle.plan.proofs.Facts.{Fits, facts}
 use Rattle.plan.proofs.Sizes.{Sizes, sizes}
 use Rattle.plan.proofs.Answers.{plan-told}
 use Rattle.plan.proofs.Then.{then-own}
-use Rattle.weights.specs.declared.Matrix.{Matrix}
-use Rattle.weights.specs.declared.Matrix.the-variants.{A, B}
-use Rattle.weights.specs.Weights.{side}
-use Rattle.encoding.specs.Encoding.{blockLength, matrixLength, maskLength, lengthTest as Encoding·lengthTest}
+use Rattle.share_side.specs.declared.Matrix.{Matrix}
+use Rattle.share_side.specs.declared.Matrix.the-variants.{A, B}
+use Rattle.share_side.specs.Weights.{side}
+use Rattle.share_blocks.specs.Encoding.{blockLength, matrixLength, maskLength, lengthTest as Encoding·lengthTest}
 use Rattle.share.specs.Sharing.{shareOf, hostShare, ownTests, shareTests, shareAfter}
 use Rattle.product.specs.Product.{productOf, lengthTest, productTests, productAfter}
-use Rattle.header.specs.declared.Header.{Header}
-use Rattle.big_endian.specs.Bytes.{bytesOf, elementsOf}
-use Rattle.big_endian.proofs.Bytes.{length-bytesOf, elements-of-bytes}
-use Rattle.host.specs.Host.{byteLengthTest, hostTests, hostProduct, hostAfter}
-use Rattle.header.proofs.Headers.{length-header}
-use Rattle.header.specs.Header.{header, elementCount, kindTest, hostTest, sizeTest, blockTest, fieldTests}
+use Rattle.message_header.specs.declared.Header.{Header}
+use Rattle.message_bytes.specs.Bytes.{bytesOf, elementsOf}
+use Rattle.message_bytes.proofs.Bytes.{length-bytesOf, elements-of-bytes}
+use Rattle.mukerihe.specs.Host.{byteLengthTest, hostTests, hostProduct, hostAfter}
+use Rattle.message_header.proofs.Headers.{length-header}
+use Rattle.message_header.specs.Header.{header, elementCount, kindTest, hostTest, sizeTest, blockTest, fieldTests}
 use Rattle.message.specs.Format.{messageOf, payload, elementTest, writeTests, written}
 use Rattle.message.proofs.Fields.{writes}
 use Rattle.message.proofs.Answers.{written-done}

@@ -20,18 +20,18 @@ use Rattle.plan.specs.Planning.{parameters, prime, modulusOf, blockRows, blockI
 use Rattle.plan.specs.Planning.{sizeTest, cutTest, groupTest, divisionTest, blockTest, hostsTest, neededTest, rangeTests, fitTests}
 use Rattle.plan.specs.Planning.{member, pointRows, pointsRows, pointTests, planTests, planned}
 use Rattle.product.specs.Product.{productEntry, productOf, lengthTest, productTests, productAfter}
-use Rattle.weights.specs.Weights.{side}
-use Rattle.encoding.specs.Encoding.{blockLength, matrixLength, maskLength, lengthTest as Encoding·lengthTest}
+use Rattle.share_side.specs.Weights.{side}
+use Rattle.share_blocks.specs.Encoding.{blockLength, matrixLength, maskLength, lengthTest as Encoding·lengthTest}
 use Rattle.share.specs.Sharing.{blockEntry, maskEntry, shareEntry, shareOf, point, hostShare, ownTests, shareTests, shareAfter}
 use lib.Count.{ones, onesIn}
 use Rattle.algebra.specs.Lists.{stack}
 use Rattle.algebra.specs.Sets.{members}
 use Rattle.algebra.specs.Modular.{last, inverse}
 use Rattle.algebra.specs.Polynomials.{scale, add, addRoot, basis, coefficient}
-use Rattle.heard.specs.Heard.{isHeard, someAbove, lowest}
+use Rattle.arrival_heard.specs.Heard.{isHeard, someAbove, lowest}
 use Rattle.arrival.specs.Arriving.{answerLength, storeLength, blockAt}
 use Rattle.decode.specs.Decoding.{answerEntry, chosen, tableEntry, blocks, tableOf, tableLength, heardBelow, decodeTests, tableAfter}
-use Rattle.signed.specs.Signed.{half, signed, signedTests, signedAnswer, signedTold}
+use Rattle.field_signed.specs.Signed.{half, signed, signedTests, signedAnswer, signedTold}
 use Rattle.promise.specs.Starred.{Line, Right, starred, plan, thresholds, smallest, share, decoded, signs, reading, jobWith}
 use Rattle.promise.specs.Starred.{answer as Starred·answer}
 

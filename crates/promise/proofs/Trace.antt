@@ -22,8 +22,8 @@ use Rattle.refusal.specs.Chain.{first, answer}
 use Rattle.refusal.proofs.Chains.{first-none, first-hit, first-miss, first-append, first-append-hit}
 use Rattle.plan.specs.Planning.{prime}
 use Rattle.message.specs.Format.{elements}
-use Rattle.heard.specs.Heard.{isHeard, withPlace}
-use Rattle.heard.proofs.Bits.{with-own, with-other, with-below}
+use Rattle.arrival_heard.specs.Heard.{isHeard, withPlace}
+use Rattle.arrival_heard.proofs.Bits.{with-own, with-other, with-below}
 use Rattle.arrival.specs.declared.Arrived.the-variants.{Taken, Refused}
 use Rattle.arrival.specs.Arriving.{answerLength, storeLength, blockAt, withBlock, place, arrivalTests, arrived, storeAfter, heardAfter}
 use Rattle.promise.specs.Demand3.{Task, Accepted, Call, arrival, decoding, State, unanswered, after, reply, run, replies, fit, fitFor, hasFit, bytes, firstFit}

@@ -15,8 +15,8 @@ use Rattle.algebra.proofs.Sums.{sum-bound}
 use Rattle.plan.specs.Planning.{prime}
 use Rattle.plan.proofs.Facts.{Fits, facts}
 use Rattle.product.specs.Product.{productEntry, productOf}
-use Rattle.signed.specs.Signed.{signedAnswer, signedTold, Exact}
-use Rattle.signed.proofs.Exactness.{exact-reading}
+use Rattle.field_signed.specs.Signed.{signedAnswer, signedTold, Exact}
+use Rattle.field_signed.proofs.Exactness.{exact-reading}
 use Rattle.promise.specs.Demand3.{Task, Accepted}
 use Rattle.promise.specs.WholeNumbers.{exactEntry, WholeNumbers}
 

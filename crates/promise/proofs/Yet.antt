@@ -25,13 +25,13 @@ use Rattle.refusal.specs.Chain.{Row, first}
 use Rattle.refusal.proofs.Chains.{first-none, first-miss, first-clear, first-append, answer-done}
 use Rattle.plan.specs.Planning.{prime, blockRows, blockColumns, neededOf}
 use Rattle.plan.proofs.Then.{then-own}
-use Rattle.header.specs.declared.Header.{Header}
-use Rattle.header.specs.Header.{headerOf}
+use Rattle.message_header.specs.declared.Header.{Header}
+use Rattle.message_header.specs.Header.{headerOf}
 use Rattle.message.specs.Format.{messageOf, elements, messageTests}
 use Rattle.message.specs.RoundTrips.{ReadsBack}
 use Rattle.message.proofs.RoundTrips.{reads-back}
-use Rattle.heard.specs.Heard.{isHeard, someAbove}
-use Rattle.heard.proofs.Bits.{none-heard, ones-size}
+use Rattle.arrival_heard.specs.Heard.{isHeard, someAbove}
+use Rattle.arrival_heard.proofs.Bits.{none-heard, ones-size}
 use Rattle.arrival.proofs.Answers.{message-numbered}
 use Rattle.arrival.specs.Arriving.{answerLength, storeLength, blockAt, place, foreign}
 use Rattle.product.specs.Product.{productOf}

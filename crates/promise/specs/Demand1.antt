@@ -21,19 +21,19 @@ use Rattle.field.specs.Modulus.{told as Modulus·told}
 use Rattle.plan.specs.declared.Job.{Job}
 use Rattle.plan.specs.Planning.{planTests, planned, planValues}
 use Rattle.plan.specs.Planning.{told as Planning·told}
-use Rattle.weights.specs.declared.Matrix.{Matrix}
+use Rattle.share_side.specs.declared.Matrix.{Matrix}
 use Rattle.share.specs.Sharing.{hostShare, shareTests, shareAfter}
 use Rattle.product.specs.Product.{productOf, productTests, productAfter}
-use Rattle.header.specs.declared.Header.{Header}
-use Rattle.host.specs.Host.{hostTests, hostProduct, hostAfter}
-use Rattle.header.specs.Header.{headerOf, elementCount, fields}
-use Rattle.header.specs.Header.{told as Header·told}
+use Rattle.message_header.specs.declared.Header.{Header}
+use Rattle.mukerihe.specs.Host.{hostTests, hostProduct, hostAfter}
+use Rattle.message_header.specs.Header.{headerOf, elementCount, fields}
+use Rattle.message_header.specs.Header.{told as Header·told}
 use Rattle.message.specs.Format.{messageOf, elements, writeTests, readTests, written, readAs, readInto}
-use Rattle.heard.specs.Heard.{withPlace}
+use Rattle.arrival_heard.specs.Heard.{withPlace}
 use Rattle.arrival.specs.Arriving.{answerLength, withBlock, place, arrivalTests, arrived, storeAfter, heardAfter}
 use Rattle.arrival.specs.Arriving.{numberOf as Arriving·numberOf}
 use Rattle.decode.specs.Decoding.{tableOf, decodeTests, tableAfter}
-use Rattle.signed.specs.Signed.{signed, element, signedTests, elementTests, signedAnswer, elementAnswer, signedTold, elementTold}
+use Rattle.field_signed.specs.Signed.{signed, element, signedTests, elementTests, signedAnswer, elementAnswer, signedTold, elementTold}
 
 -- the row at i; there is none past the end
 abbrev pub row : List Row → ℕ → Row

@@ -22,14 +22,14 @@ use Rattle.layout.specs.Exponents.{exponents, number}
 use Rattle.layout.specs.Sound.{Threshold}
 use Rattle.plan.specs.declared.Job.{Job}
 use Rattle.plan.specs.Planning.{prime, parameters, blockRows, blockColumns, layoutOf, neededOf, planOf, planTests}
-use Rattle.weights.specs.declared.Matrix.{Matrix}
-use Rattle.weights.specs.Weights.{side}
+use Rattle.share_side.specs.declared.Matrix.{Matrix}
+use Rattle.share_side.specs.Weights.{side}
 use Rattle.share.specs.Sharing.{shareEntry, point, shareTests, shareAfter}
 use Rattle.product.specs.Product.{productEntry, productTests, productAfter}
-use Rattle.big_endian.specs.Bytes.{elementsOf}
-use Rattle.host.specs.Host.{hostTests, hostAfter}
+use Rattle.message_bytes.specs.Bytes.{elementsOf}
+use Rattle.mukerihe.specs.Host.{hostTests, hostAfter}
 use Rattle.message.specs.RoundTrips.{RoundTrips}
-use Rattle.heard.specs.Heard.{isHeard}
+use Rattle.arrival_heard.specs.Heard.{isHeard}
 use Rattle.decode.specs.Decoding.{answerEntry, chosen, tableLength, decodeTests, tableAfter}
 
 pub record Modulo (q rows columns : ℕ) (f : ℕ → ℕ → ℕ) (xs : List ℕ) : Type 0 where

@@ -32,17 +32,17 @@ use Rattle.algebra.specs.Sets.{size}
 use Rattle.refusal.specs.Chain.{first, except, done}
 use Rattle.plan.specs.declared.Job.{Job}
 use Rattle.plan.specs.Planning.{prime, blockRows, blockInner, blockColumns, neededOf, planOf, planTests, planned, told, planValues}
-use Rattle.weights.specs.declared.Matrix.{Matrix}
-use Rattle.weights.specs.declared.Matrix.the-variants.{A, B}
-use Rattle.weights.specs.Weights.{side}
-use Rattle.encoding.specs.Encoding.{maskLength, blockLength}
+use Rattle.share_side.specs.declared.Matrix.{Matrix}
+use Rattle.share_side.specs.declared.Matrix.the-variants.{A, B}
+use Rattle.share_side.specs.Weights.{side}
+use Rattle.share_blocks.specs.Encoding.{maskLength, blockLength}
 use Rattle.share.specs.Sharing.{hostShare, shareAfter}
 use Rattle.product.specs.Product.{productOf, productAfter}
-use Rattle.host.specs.Host.{hostAfter}
-use Rattle.header.specs.declared.Header.{Header}
-use Rattle.header.specs.Header.{elementCount}
+use Rattle.mukerihe.specs.Host.{hostAfter}
+use Rattle.message_header.specs.declared.Header.{Header}
+use Rattle.message_header.specs.Header.{elementCount}
 use Rattle.message.specs.Format.{messageOf, payload, written}
-use Rattle.heard.specs.Heard.{isHeard}
+use Rattle.arrival_heard.specs.Heard.{isHeard}
 use Rattle.arrival.specs.Arriving.{storeLength, place, arrivalTests, arrived, storeAfter, numberOf, heardAfter}
 use Rattle.decode.specs.Decoding.{tableLength, decodeTests, tableAfter}
 

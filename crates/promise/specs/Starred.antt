@@ -24,12 +24,12 @@ use Rattle.layout.specs.Exponents.{exponents}
 use Rattle.plan.specs.declared.Job.{Job}
 use Rattle.plan.specs.Planning.{parameters, planned, told}
 use Rattle.product.specs.Product.{productAfter}
-use Rattle.weights.specs.declared.Matrix.{Matrix}
-use Rattle.weights.specs.declared.Matrix.the-variants.{A, B}
+use Rattle.share_side.specs.declared.Matrix.{Matrix}
+use Rattle.share_side.specs.declared.Matrix.the-variants.{A, B}
 use Rattle.share.specs.Sharing.{shareAfter}
 use Rattle.decode.specs.Decoding.{tableAfter}
-use Rattle.signed.specs.declared.Signed.{Signed}
-use Rattle.signed.specs.Signed.{signedAnswer, signedTold}
+use Rattle.field_signed.specs.declared.Signed.{Signed}
+use Rattle.field_signed.specs.Signed.{signedAnswer, signedTold}
 
 abbrev pub Line : Type 0
 Line = List ℕ × List ℕ

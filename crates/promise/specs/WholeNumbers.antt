@@ -14,9 +14,9 @@ use Rattle.algebra.specs.Lists.{entry, AllBelow}
 use Rattle.algebra.specs.Sets.{size}
 use Rattle.refusal.specs.Chain.{done}
 use Rattle.plan.specs.Planning.{prime, neededOf}
-use Rattle.weights.specs.declared.Matrix.the-variants.{A, B}
+use Rattle.share_side.specs.declared.Matrix.the-variants.{A, B}
 use Rattle.product.specs.Product.{productEntry}
-use Rattle.signed.specs.Signed.{inRange, signedAnswer, signedTold, Taking, taken, dot}
+use Rattle.field_signed.specs.Signed.{inRange, signedAnswer, signedTold, Taking, taken, dot}
 use Rattle.arrival.specs.Arriving.{storeLength}
 use Rattle.decode.specs.Decoding.{tableLength}
 use Rattle.promise.specs.Demand3.{Task, Accepted, Masks, trueProduct, Call, decoding, begin, replies, unanswered, hasFit, firstFit}

@@ -18,12 +18,12 @@ use Rattle.plan.specs.declared.Job.{Job}
 use Rattle.plan.specs.Planning.{parameters, planOf}
 use Rattle.plan.proofs.Facts.{Fits}
 use Rattle.plan.proofs.Sizes.{sizes}
-use Rattle.weights.specs.declared.Matrix.{Matrix}
-use Rattle.weights.specs.declared.Matrix.the-variants.{A, B}
-use Rattle.weights.specs.declared.Side.{Side}
-use Rattle.weights.specs.Weights.{Small, side}
-use Rattle.encoding.specs.Encoding.{lengthTest}
-use Rattle.encoding.proofs.Fitting.{Exact, exact}
+use Rattle.share_side.specs.declared.Matrix.{Matrix}
+use Rattle.share_side.specs.declared.Matrix.the-variants.{A, B}
+use Rattle.share_side.specs.declared.Side.{Side}
+use Rattle.share_side.specs.Weights.{Small, side}
+use Rattle.share_blocks.specs.Encoding.{lengthTest}
+use Rattle.share_blocks.proofs.Fitting.{Exact, exact}
 use Rattle.share.specs.Sharing.{hostShare, ownTests, shareTests, shareAfter}
 
 pub side-small : (m : Matrix) (job : Job) → Fits job → Small (side m (planOf job))

@@ -21,11 +21,11 @@ use Rattle.field.specs.declared.Modulus.{Modulus}
 use Rattle.field.specs.Modulus.{prime}
 use Rattle.field.proofs.Moduli.{prime-prime, sums-fit}
 use Rattle.layout.specs.Exponents.{Exponents, term}
-use Rattle.rows.specs.Combination.{combination}
-use Rattle.rows.proofs.Exact.{combination-below}
-use Rattle.weights.specs.declared.Side.{Side}
-use Rattle.weights.specs.Weights.{Small, weightsOf}
-use Rattle.encoding.specs.Encoding.{blockTerms, maskTerms, rowSums, encodedBlock}
+use Rattle.sums_rows.specs.Combination.{combination}
+use Rattle.sums_rows.proofs.Exact.{combination-below}
+use Rattle.share_side.specs.declared.Side.{Side}
+use Rattle.share_side.specs.Weights.{Small, weightsOf}
+use Rattle.share_blocks.specs.Encoding.{blockTerms, maskTerms, rowSums, encodedBlock}
 use Rattle.share.specs.Sharing.{blockEntry, maskEntry, shareEntry, shareOf}
 
 -- a combination of n weights, of many, with rows from some place on

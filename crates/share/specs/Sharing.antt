@@ -19,10 +19,10 @@ use Rattle.refusal.specs.Chain.{Row, first, answer, outside}
 use Rattle.layout.specs.Exponents.{Exponents, exponents, term}
 use Rattle.plan.specs.declared.Job.{Job}
 use Rattle.plan.specs.Planning.{prime, parameters, layoutOf, planOf, planTests}
-use Rattle.weights.specs.declared.Matrix.{Matrix}
-use Rattle.weights.specs.declared.Side.{Side}
-use Rattle.weights.specs.Weights.{side}
-use Rattle.encoding.specs.Encoding.{lengthTest}
+use Rattle.share_side.specs.declared.Matrix.{Matrix}
+use Rattle.share_side.specs.declared.Side.{Side}
+use Rattle.share_side.specs.Weights.{side}
+use Rattle.share_blocks.specs.Encoding.{lengthTest}
 
 unfoldable pub blockEntry : Side → List ℕ → ℕ → ℕ → ℕ → ℕ → ℕ
 blockEntry s xs k l i j = entry (s .across * s .columns) xs (k * s .rows + i) (l * s .columns + j)

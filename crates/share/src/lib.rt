@@ -7,23 +7,23 @@ ghost use Rattle.algebra.specs.Lists.{AllBelow};
 ghost use Rattle.refusal.specs.Chain.{first};
 ghost use Rattle.field.specs.Modulus.{prime};
 ghost use Rattle.layout.specs.Exponents.{exponents};
-ghost use Rattle.weights.specs.Weights.{Small, weightCount, weightsOf};
-ghost use Rattle.encoding.specs.Encoding.{blockLength, matrixLength, maskLength, lengthTest};
+ghost use Rattle.share_side.specs.Weights.{Small, weightCount, weightsOf};
+ghost use Rattle.share_blocks.specs.Encoding.{blockLength, matrixLength, maskLength, lengthTest};
 ghost use Rattle.share.specs.Sharing.{shareOf, ownTests, shareTests, shareAfter};
-use encoding::MOST_WEIGHTS;
+use share_blocks::MOST_WEIGHTS;
 use field::Modulus;
 use plan::Job;
 use plan::Plan;
 use plan::Planned;
-use weights::Matrix;
-use weights::Side;
+use share_side::Matrix;
+use share_side::Side;
 
 // A buffer is not of exact length.
 fn length_test(s: Side, xs: usize, masks: usize, out: usize) -> bool
     requires { ⌜ Small s ⌝ }
     ensures { λ r. ⌜ r ≡ lengthTest s xs masks out ⌝ }
 {
-    encoding::misfit(s, xs, masks, out)
+    share_blocks::misfit(s, xs, masks, out)
 }
 
 // Tests 12 to 15: the host, the lengths, the elements of the matrix and of the masks.
@@ -45,10 +45,10 @@ fn own_refusal(
     if length_test(s, xs.len(), masks.len(), room) {
         return refusal::LENGTH;
     }
-    if !elements::all_below(modulus, xs) {
+    if !field::all_below(modulus, xs) {
         return refusal::ELEMENT;
     }
-    if !elements::all_below(modulus, masks) {
+    if !field::all_below(modulus, masks) {
         return refusal::MASK;
     }
     0
@@ -69,12 +69,12 @@ fn side_weights(plan: Plan, s: Side, x: u32, weights: &mut [u32])
     while k < down {
         let start = k * across;
         let end = start + across;
-        weights::weigh(plan, blocks, k as u8, x, &mut weights[start..end]);
+        share_side::weigh(plan, blocks, k as u8, x, &mut weights[start..end]);
         k += 1;
     }
     let start = down * across;
     let end = start + s.count;
-    weights::weigh(plan, masks, 0, x, &mut weights[start..end]);
+    share_side::weigh(plan, masks, 0, x, &mut weights[start..end]);
 }
 
 // The share of a host of an accepted job.
@@ -91,7 +91,7 @@ fn share_planned(plan: Plan, s: Side, x: u32, xs: &[u32], masks: &[u32], out: &m
     let modulus = plan.modulus;
     let mut weights = [0u32; MOST_WEIGHTS];
     side_weights(plan, s, x, &mut weights);
-    encoding::encode(modulus, s, &weights, xs, masks, out);
+    share_blocks::encode(modulus, s, &weights, xs, masks, out);
 }
 
 // The share of a host, numbered from 1: the output then holds it, or the call is refused by number and the output stays as it
@@ -112,7 +112,7 @@ pub fn share(
     match planned {
         Planned::Refused(number) => number,
         Planned::Accepted(plan) => {
-            let s = weights::side_of(matrix, plan);
+            let s = share_side::side_of(matrix, plan);
             let modulus = plan.modulus;
             let own = own_refusal(modulus, job.hosts, s, host, xs, masks, out.len());
             if own != 0 {

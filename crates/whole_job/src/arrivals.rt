@@ -148,7 +148,7 @@ fn put_host(out: &mut [u8], at: usize, heard: u64, place: u32) -> usize
     requires { ⌜ place < 64 ⌝ }
     ensures { λ _. ⌜ length (now (out .exit)) ≡ length (now (out .entry)) ⌝ }
 {
-    if heard::is_heard(heard, place) {
+    if arrival_heard::is_heard(heard, place) {
         return put_value(out, at, place + 1);
     }
     at

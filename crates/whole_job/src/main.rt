@@ -28,7 +28,7 @@ use sharing::block_size;
 use sharing::blocks;
 use sharing::element_room;
 use sharing::share_all;
-use weights::Matrix;
+use share_side::Matrix;
 use words::least;
 
 // A text must be shorter than this. Then it has at most half as many numbers, since a byte stands between two.
@@ -261,7 +261,7 @@ fn number_room() -> [u32; MOST_NUMBERS]
 fn run(text: &[u8]) {
     let mut numbers = number_room();
     run_text(
-        sections::rest_of(text, numbers::mark_length(text)),
+        sections::rest_of(text, text_numbers::mark_length(text)),
         &mut numbers,
     );
 }

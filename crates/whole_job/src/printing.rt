@@ -23,7 +23,7 @@ pub(crate) fn say_refused(number: u32) {
 
 // Prints the line and column of the byte at a place of the text.
 pub(crate) fn say_place(text: &[u8], at: usize) {
-    let place = numbers::place_of(text, at);
+    let place = text_numbers::place_of(text, at);
     say_number(b" at line ", place.line as u64);
     say_number(b", column ", place.column as u64);
 }

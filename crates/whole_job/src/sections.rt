@@ -5,7 +5,7 @@ ghost use lib.ListN.{length};
 use crate::printing::say;
 use crate::printing::say_number;
 use crate::printing::say_place;
-use numbers::Numbers;
+use text_numbers::Numbers;
 use words::least;
 
 // The sections, in their order.
@@ -50,7 +50,7 @@ fn all_words() -> [u8; 49]
 
 // The word at the front of some bytes.
 fn word_of(bytes: &[u8]) -> &[u8] {
-    front_of(bytes, numbers::token_end(bytes))
+    front_of(bytes, text_numbers::token_end(bytes))
 }
 
 // Two lists of bytes are the same.
@@ -102,7 +102,7 @@ fn say_expected(text: &[u8], section: usize, at: usize)
 
 // Prints that a number is too large, or that there is none, at a place.
 fn say_fault(text: &[u8], at: usize) {
-    if numbers::is_digit_at(text, at) {
+    if text_numbers::is_digit_at(text, at) {
         say(b"NUMBER TOO LARGE");
         say_place(text, at);
         say(b": the largest is 4294967295\n");
@@ -162,9 +162,9 @@ fn read_part(text: &[u8], at: usize, numbers: &mut [u32], count: usize) -> Read
     ensures { λ _. ⌜ length (now (numbers .exit)) ≡ length (now (numbers .entry)) ⌝ }
 {
     let after = rest_of(text, at);
-    let end = numbers::first_word(after);
+    let end = text_numbers::first_word(after);
     let start = least(count, numbers.len());
-    match numbers::read_numbers(front_of(after, end), &mut numbers[start..]) {
+    match text_numbers::read_numbers(front_of(after, end), &mut numbers[start..]) {
         Numbers::Fault(fault) => {
             say_fault(text, further(at, fault));
             Read::Wrong
@@ -194,14 +194,14 @@ pub(crate) fn read_sections(
     starts: &mut [usize; 8],
     lines: &mut [usize; 7],
 ) -> bool {
-    let mut at = numbers::first_token(text);
+    let mut at = text_numbers::first_token(text);
     let mut count = 0;
     let mut section = 0;
     while section < SECTIONS {
         let Read::Done(next, more) = read_section(text, section, at, numbers, count) else {
             return false;
         };
-        let place = numbers::place_of(text, at);
+        let place = text_numbers::place_of(text, at);
         lines[section] = place.line;
         starts[section] = count;
         at = next;

@@ -3,7 +3,7 @@ ghost use mathlib.Core.Path.{_≡_};
 ghost use Prim.Native.Nat.{_≤_};
 ghost use lib.ListN.{length};
 use plan::Job;
-use weights::Matrix;
+use share_side::Matrix;
 use words::least;
 
 // The most hosts.

@@ -8,7 +8,7 @@ use crate::sharing::MOST_ELEMENTS;
 use crate::sharing::area;
 use crate::sharing::element_room;
 use plan::Job;
-use signed::Signed;
+use field_signed::Signed;
 use words::least;
 
 // Room for lines, and the bytes of it after which it is printed.
@@ -56,7 +56,7 @@ fn put_sign(out: &mut [u8], at: usize, x: i64) -> usize
 fn put_signed(out: &mut [u8], at: usize, modulus: u32, v: u32) -> usize
     ensures { λ _. ⌜ length (now (out .exit)) ≡ length (now (out .entry)) ⌝ }
 {
-    match signed::signed_reading(modulus, v) {
+    match field_signed::signed_reading(modulus, v) {
         Signed::Value(x) => {
             let next = put_sign(out, at, x);
             text::put_decimal(out, next, size_of(x))

@@ -8,12 +8,12 @@ use borrow.Author.Needs.{needs}
 use Rattle.algebra.proofs.Orders.{row-end}
 use Rattle.refusal.specs.Chain.{first}
 use Rattle.plan.specs.Planning.{planTests}
-use Rattle.header.specs.declared.Header.{Header}
-use Rattle.header.specs.Header.{headerOf}
+use Rattle.message_header.specs.declared.Header.{Header}
+use Rattle.message_header.specs.Header.{headerOf}
 use Rattle.message.specs.Format.{elements, messageTests, examined}
-use Rattle.header.proofs.Answers.{done-told, refused-told}
-use Rattle.heard.specs.Heard.{withPlace}
-use Rattle.heard.proofs.Bits.{bit-of, with-below}
+use Rattle.message_header.proofs.Answers.{done-told, refused-told}
+use Rattle.arrival_heard.specs.Heard.{withPlace}
+use Rattle.arrival_heard.proofs.Bits.{bit-of, with-below}
 use Rattle.arrival.specs.Arriving.{answerLength, storeLength, place, withBlock, stateTests, ownTests, arrivalTests}
 use Rattle.arrival.proofs.Answers.{host-low, Passed, passed, place-below, refused, done, told-message, told-own}
 use Rattle.arrival.proofs.take_message.Statement.{statement}

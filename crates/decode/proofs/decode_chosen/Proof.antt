@@ -7,8 +7,8 @@ use lib.ListN.{length, getD, take, replicate, length-map}
 use lib.Seq.{length-take-le}
 use Rattle.algebra.proofs.Places.{pointsAt}
 use Rattle.field.specs.Modulus.{prime}
-use Rattle.pieces.specs.declared.Shape.{Shape}
-use Rattle.pieces.specs.Pieces.{blockCount}
+use Rattle.decode_table.specs.declared.Shape.{Shape}
+use Rattle.decode_table.specs.Pieces.{blockCount}
 use Rattle.layout.specs.Exponents.{exponents}
 use Rattle.plan.specs.declared.Plan.{Plan}
 use Rattle.plan.specs.Planning.{parameters, neededOf, planOf}

@@ -12,10 +12,10 @@ use Rattle.algebra.proofs.Orders.{row-end}
 use Rattle.algebra.proofs.Lists.{length-tab}
 use Rattle.algebra.proofs.Grids.{rows-none, rows-more, rows-all}
 use Rattle.field.specs.Modulus.{prime}
-use Rattle.pieces.specs.Pieces.{blockCount}
+use Rattle.decode_table.specs.Pieces.{blockCount}
 use Rattle.layout.specs.Exponents.{exponents}
 use Rattle.plan.specs.declared.Plan.{Plan}
-use Rattle.interpolation.specs.Basis.{coefficients, product}
+use Rattle.decode_basis.specs.Basis.{coefficients, product}
 use Rattle.decode.specs.Weights.{shape, hostWeight, weightsOf}
 use Rattle.decode.proofs.decoding_weights.Statement.{statement}
 use Rattle.decode.proofs.decoding_weights.Tie as tie

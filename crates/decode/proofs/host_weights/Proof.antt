@@ -16,7 +16,7 @@ use Rattle.field.specs.Modulus.{prime}
 use Rattle.layout.specs.declared.Layout.{Layout}
 use Rattle.layout.specs.declared.Parameters.{Parameters}
 use Rattle.layout.specs.Exponents.{exponents, term}
-use Rattle.interpolation.specs.Basis.{quotient}
+use Rattle.decode_basis.specs.Basis.{quotient}
 use Rattle.decode.specs.Weights.{hostWeight}
 use Rattle.decode.proofs.host_weights.Statement.{statement}
 use Rattle.decode.proofs.host_weights.Tie as tie

@@ -6,7 +6,7 @@ use Rattle.algebra.specs.Lists.{tab}
 use Rattle.plan.specs.declared.Job.{Job}
 use Rattle.plan.specs.declared.Planned.{Planned}
 use Rattle.plan.specs.Planning.{planned}
-use Rattle.line.specs.declared.Line.{Line}
+use Rattle.lister_line.specs.declared.Line.{Line}
 use Rattle.lister.specs.Listing.{jobOf, told, listing}
 use native.Mathlib.Omega.{arith}
 use Rattle.lister.proofs.Replies.{listed, malformed, replied}

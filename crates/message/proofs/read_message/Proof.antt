@@ -5,8 +5,8 @@ use native.Mathlib.Omega.{arith}
 use lib.ListN.{length}
 use borrow.Author.Needs.{needs}
 use Rattle.refusal.specs.Chain.{first}
-use Rattle.header.proofs.Fields.{ranged}
-use Rattle.header.proofs.Answers.{done-told, refused-told}
+use Rattle.message_header.proofs.Fields.{ranged}
+use Rattle.message_header.proofs.Answers.{done-told, refused-told}
 use Rattle.message.specs.Format.{messageTests, examined}
 use Rattle.message.proofs.Fields.{readable}
 use Rattle.message.proofs.Parts.{read-part}

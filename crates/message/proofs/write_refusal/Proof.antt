@@ -6,8 +6,8 @@ use lib.ListN.{length}
 use borrow.Author.Needs.{needs}
 use Rattle.refusal.specs.Chain.{first}
 use Rattle.field.proofs.Moduli.{none-named}
-use Rattle.header.specs.Header.{elementCount, fieldTests}
-use Rattle.header.proofs.Fields.{Ranged, ranged}
+use Rattle.message_header.specs.Header.{elementCount, fieldTests}
+use Rattle.message_header.proofs.Fields.{Ranged, ranged}
 use Rattle.message.specs.Format.{elementTest, writeLengthTest}
 use Rattle.message.proofs.Tests.{element-named, write-fields, write-length, write-element, write-none}
 use Rattle.message.proofs.write_refusal.Statement.{statement}

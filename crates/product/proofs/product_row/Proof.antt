@@ -5,7 +5,7 @@ use Prim.Native.Nat.{ℕ}
 use lib.ListN.{length}
 use Rattle.field.specs.Modulus.{prime}
 use Rattle.sums.specs.Sums.{reduced}
-use Rattle.rows.specs.Combination.{added}
+use Rattle.sums_rows.specs.Combination.{added}
 use Rattle.product.proofs.Rows.{one-row}
 use borrow.Author.Needs.{needs}
 use Rattle.product.proofs.product_row.Statement.{statement}

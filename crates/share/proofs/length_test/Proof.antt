@@ -1,7 +1,7 @@
 -- `share::length_test` meets its contract.
 use mathlib.Core.Path.{_∙_}
 use borrow.Author.Needs.{needs}
-use Rattle.encoding.proofs.Fitting.{only-lengths}
+use Rattle.share_blocks.proofs.Fitting.{only-lengths}
 use Rattle.share.proofs.length_test.Statement.{statement}
 use Rattle.share.proofs.length_test.Tie as tie
 

@@ -10,8 +10,8 @@ use Rattle.plan.specs.declared.Plan.{Plan}
 use Rattle.plan.specs.Planning.{prime, parameters, layoutOf, planOf, planTests}
 use Rattle.plan.proofs.Facts.{Facts, Fits, facts, planned-facts}
 use Rattle.plan.proofs.Then.{then-refused, then-own, own-prime}
-use Rattle.weights.specs.declared.Side.{Side}
-use Rattle.weights.specs.Weights.{side}
+use Rattle.share_side.specs.declared.Side.{Side}
+use Rattle.share_side.specs.Weights.{side}
 use Rattle.share.specs.Sharing.{point, shareOf, hostShare, ownTests, shareTests}
 use Rattle.share.proofs.Answers.{side-small, Passed, passed, refused, done}
 use borrow.Author.Needs.{needs}

@@ -9,9 +9,9 @@ use Rattle.algebra.proofs.Lists.{below-drop}
 use Rattle.field.specs.Modulus.{prime}
 use Rattle.field.proofs.Moduli.{prime-prime}
 use Rattle.layout.specs.Exponents.{exponents}
-use Rattle.weights.specs.declared.Side.{Side}
-use Rattle.weights.specs.Weights.{Small, weightCount}
-use Rattle.encoding.proofs.Fitting.{encoded-fit}
+use Rattle.share_side.specs.declared.Side.{Side}
+use Rattle.share_side.specs.Weights.{Small, weightCount}
+use Rattle.share_blocks.proofs.Fitting.{encoded-fit}
 use Rattle.share.proofs.Sums.{share-exact, weights-below}
 use borrow.Author.Needs.{needs}
 use Rattle.share.proofs.share_planned.Statement.{statement}

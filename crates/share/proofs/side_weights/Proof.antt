@@ -12,8 +12,8 @@ use Rattle.field.specs.Modulus.{prime}
 use Rattle.layout.specs.declared.Series.{Series}
 use Rattle.layout.specs.Exponents.{exponents, term}
 use Rattle.plan.specs.declared.Plan.{Plan}
-use Rattle.weights.specs.Weights.{weightCount, weightsOf}
-use Rattle.weights.proofs.Parts.{Part, weighed-part, row-part, masks-part, weights-end}
+use Rattle.share_side.specs.Weights.{weightCount, weightsOf}
+use Rattle.share_side.proofs.Parts.{Part, weighed-part, row-part, masks-part, weights-end}
 use Rattle.share.proofs.side_weights.Statement.{statement}
 use Rattle.share.proofs.side_weights.Tie as tie
 

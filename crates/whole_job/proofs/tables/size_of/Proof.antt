@@ -10,7 +10,7 @@ use mir.Val.{SFits, toZ, ofZ}
 use mir.Facts.{toZ-ofZ}
 use borrow.Author.Tests.{ltb-true, ltb-false}
 use borrow.Author.Needs.{needs}
-use Rattle.signed.proofs.Words.{narrow}
+use Rattle.field_signed.proofs.Words.{narrow}
 use Rattle.whole_job.proofs.tables.size_of.Statement.{statement}
 use Rattle.whole_job.proofs.tables.size_of.Tie as tie
 

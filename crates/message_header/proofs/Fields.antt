@@ -1,0 +1,77 @@
+-- What the tests of a header tell, and when they pass.
+--
+--   Ranged h          the fields are in their ranges
+--   ranged            they are where the tests of the fields pass
+--   Headed message    what the tests of a message's header ask
+--   headed, heads     they pass where it holds, and only there
+use mathlib.Core.Path.{_≡_, ap, _∙_}
+use mathlib.Core.Bool.{false, not}
+use mathlib.Core.List.{List}
+use Prim.Native.Nat.{ℕ, _^_, _<_, _≤_}
+use lib.Dec.{ltb}
+use lib.ListN.{length}
+use borrow.Author.Tests.{ltb-false, eq-eqb}
+use Rattle.algebra.proofs.Tests.{equal}
+use Rattle.refusal.specs.Chain.{first}
+use Rattle.refusal.proofs.Chains.{first-clear, inside-high}
+use Rattle.refusal.proofs.Limits.{within-both}
+use Rattle.field.specs.Modulus.{moduli, modulus, noModulus}
+use Rattle.field.proofs.Moduli.{known-number}
+use Rattle.message_bytes.specs.Bytes.{numberAt}
+use Rattle.message_header.specs.declared.Header.{Header}
+use Rattle.message_header.specs.Header.{mark, version, headerOf, elementCount, kindTest, hostTest, sizeTest, blockTest, fieldTests, markTest, versionTest, headerTests}
+use Rattle.message_header.proofs.Tests.{told-fields}
+
+pub record Ranged (h : Header) : Type 0 where
+  pub known : noModulus (h .modulus) ≡ false
+  pub prime : modulus (h .modulus) < 2 ^ 31
+  pub kind : h .kind ≤ 3
+  pub modulus : h .modulus ≤ 3
+  pub host : h .host ≤ 64
+  pub rows : h .rows ≤ 16384
+  pub columns : h .columns ≤ 16384
+  pub count : elementCount h ≤ 4096
+
+pub ranged : (h : Header) → first (fieldTests h) ≡ 0 → Ranged h
+unfolding fieldTests kindTest hostTest sizeTest blockTest noModulus moduli
+ranged h e =
+    let kind = first-clear (kindTest h) 15 _ e in
+    let number = first-clear (noModulus (h .modulus)) 0 _ (kind .1) in
+    let host = first-clear (hostTest h) 11 _ (number .1) in
+    let size = first-clear (sizeTest h) 1 _ (host .1) in
+    let block = first-clear (blockTest h) 5 _ (size .1) in
+    let sides = within-both 16384 (h .rows) (h .columns) (size .0) in
+    record {
+      known = number .0;
+      kind = inside-high 1 3 _ (kind .0);
+      modulus = inside-high 1 3 _ (number .0);
+      host = inside-high 1 64 _ (host .0);
+      rows = sides .0 .high;
+      columns = sides .1 .high;
+      count = ltb-false 4096 _ (block .0);
+      prime = known-number (h .modulus) (number .0) .small;
+    }
+
+pub record Headed (message : List ℕ) : Type 0 where
+  pub long : 16 ≤ length message
+  pub mark : numberAt message 0 3 ≡ mark
+  pub version : numberAt message 3 2 ≡ version
+  pub fields : first (fieldTests (headerOf message)) ≡ 0
+
+module _ (message : List ℕ) where
+  pub headed : first (headerTests message) ≡ 0 → Headed message
+  unfolding headerTests markTest versionTest
+  headed e =
+      let long = first-clear (ltb (length message) 16) 16 _ e in
+      let mark = first-clear (markTest message) 17 _ (long .1) in
+      let version = first-clear (versionTest message) 18 _ (mark .1) in
+      record {
+        long = ltb-false (length message) 16 (long .0);
+        mark = equal _ _ (mark .0);
+        version = equal _ _ (version .0);
+        fields = version .1;
+      }
+
+  pub heads : Headed message → first (headerTests message) ≡ 0
+  unfolding markTest versionTest
+  heads h = told-fields message (h .long) (ap not (eq-eqb _ _ (h .mark))) (ap not (eq-eqb _ _ (h .version))) ∙ h .fields
