@@ -1,3 +1,3 @@
 -- Laws of arrivals.
-pub mod Answers
+pub mod Outcomes
 pub mod Blocks

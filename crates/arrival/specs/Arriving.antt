@@ -18,7 +18,7 @@ use mathlib.Core.List.{List, [], _∷_, _++_}
 use Prim.Native.Nat.{ℕ, _+_, _-_, _*_}
 use lib.Dec.{eqb, ltb}
 use lib.ListN.{length, take, drop}
-use Rattle.refusal.specs.Chain.{Row, first, answer}
+use Rattle.refusal.specs.Chain.{Test, first, outcome}
 use Rattle.plan.specs.declared.Job.{Job}
 use Rattle.plan.specs.Planning.{blockRows, blockColumns, planTests}
 use Rattle.message_header.specs.declared.Header.{Header}
@@ -53,27 +53,27 @@ foreign job h =
     || not (eqb (h .columns) (blockColumns job))
 
 -- room is the store's length
-unfoldable pub stateTests : Job → ℕ → ℕ → List Row
+unfoldable pub stateTests : Job → ℕ → ℕ → List Test
 stateTests job heard room = (someAbove (job .hosts) heard, 21) ∷ (not (eqb room (storeLength job)), 13) ∷ []
 
-unfoldable pub ownTests : Job → ℕ → List ℕ → List Row
+unfoldable pub ownTests : Job → ℕ → List ℕ → List Test
 ownTests job heard message =
     (foreign job (headerOf message), 22)
     ∷ (ltb (job .hosts) (headerOf message .host), 12)
     ∷ (isHeard heard (place message), 23)
     ∷ []
 
-unfoldable pub arrivalTests : Job → List ℕ → ℕ → ℕ → List ℕ → List Row
+unfoldable pub arrivalTests : Job → List ℕ → ℕ → ℕ → List ℕ → List Test
 arrivalTests job points heard room message =
     planTests job points ++ (stateTests job heard room ++ (messageTests message ++ ownTests job heard message))
 
 unfoldable pub arrived : Job → List ℕ → ℕ → List ℕ → List ℕ → Arrived
 arrived job points heard store message =
-    answer (first (arrivalTests job points heard (length store) message)) (Taken (withPlace heard (place message))) Refused
+    outcome (first (arrivalTests job points heard (length store) message)) (Taken (withPlace heard (place message))) Refused
 
 unfoldable pub storeAfter : Job → List ℕ → ℕ → List ℕ → List ℕ → List ℕ
 storeAfter job points heard store message =
-    answer (first (arrivalTests job points heard (length store) message))
+    outcome (first (arrivalTests job points heard (length store) message))
     (withBlock (answerLength job) store (place message) (elements message))
     (λ n. store)
 

@@ -115,7 +115,7 @@ fn take_message(
 // Takes an answer's message: its elements are written over its host's block of the store, and its host counts as heard; or it
 // is refused by number, and the store stays as it was.
 pub fn arrive(job: Job, points: &[u32], heard: u64, store: &mut [u32], message: &[u8]) -> Arrived
-    ensures answer { λ r. ⌜ r ≡ arrived job (now (points .entry)) heard (now (store .entry)) (now (message .entry)) ⌝ }
+    ensures outcome { λ r. ⌜ r ≡ arrived job (now (points .entry)) heard (now (store .entry)) (now (message .entry)) ⌝ }
     ensures kept { λ _. ⌜ now (store .exit) ≡ storeAfter job (now (points .entry)) heard (now (store .entry)) (now (message .entry)) ⌝ }
 {
     let planned = plan::plan_job(job, points);

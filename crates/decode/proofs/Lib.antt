@@ -2,4 +2,4 @@
 pub mod Chosen
 pub mod Stored
 pub mod Tables
-pub mod Answers
+pub mod Outcomes

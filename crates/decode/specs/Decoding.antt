@@ -20,7 +20,7 @@ use lib.Count.{ones}
 use lib.ListN.{length, getD}
 use Rattle.algebra.specs.Lists.{stack, grid, entry, allBelow}
 use Rattle.algebra.specs.Polynomials.{coefficient}
-use Rattle.refusal.specs.Chain.{Row, first, answer}
+use Rattle.refusal.specs.Chain.{Test, first, outcome}
 use Rattle.layout.specs.Exponents.{exponents}
 use Rattle.plan.specs.declared.Job.{Job}
 use Rattle.plan.specs.Planning.{prime, parameters, layoutOf, neededOf, blockRows, blockColumns, planTests}
@@ -57,7 +57,7 @@ heardBelow q size heard store (suc n) =
     heardBelow q size heard store n && (not (isHeard heard n) || allBelow q (blockAt size store n))
 
 -- room is the table's length
-unfoldable pub decodeTests : Job → List ℕ → ℕ → List ℕ → ℕ → List Row
+unfoldable pub decodeTests : Job → List ℕ → ℕ → List ℕ → ℕ → List Test
 decodeTests job points heard store room =
     planTests job points
     ++ ((someAbove (job .hosts) heard, 21)
@@ -68,4 +68,4 @@ decodeTests job points heard store room =
 
 unfoldable pub tableAfter : Job → List ℕ → ℕ → List ℕ → List ℕ → List ℕ
 tableAfter job points heard store table =
-    answer (first (decodeTests job points heard store (length table))) (tableOf job points heard store) (λ n. table)
+    outcome (first (decodeTests job points heard store (length table))) (tableOf job points heard store) (λ n. table)

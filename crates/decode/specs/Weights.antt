@@ -16,7 +16,7 @@ use lib.Dec.{eqb, ltb}
 use lib.Count.{ones}
 use lib.ListN.{length, getD}
 use Rattle.algebra.specs.Lists.{grid}
-use Rattle.refusal.specs.Chain.{Row}
+use Rattle.refusal.specs.Chain.{Test}
 use Rattle.field.specs.Modulus.{prime as Modulus·prime}
 use Rattle.decode_table.specs.declared.Shape.{Shape}
 use Rattle.decode_table.specs.Pieces.{blockCount}
@@ -30,7 +30,7 @@ use Rattle.arrival.specs.Arriving.{answerLength, storeLength}
 use Rattle.decode.specs.Decoding.{tableLength, heardBelow}
 
 -- room is the table's length
-unfoldable pub ownTests : Job → ℕ → List ℕ → ℕ → List Row
+unfoldable pub ownTests : Job → ℕ → List ℕ → ℕ → List Test
 ownTests job heard store room =
     (someAbove (job .hosts) heard, 21)
     ∷ (not (eqb (length store) (storeLength job)) || not (eqb room (tableLength job)), 13)

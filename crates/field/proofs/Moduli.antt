@@ -27,7 +27,7 @@ use lib.ListN.{length, getD}
 use Rattle.algebra.specs.Modular.{Prime}
 use Rattle.algebra.proofs.Primes.{clear, prime-by}
 use Rattle.algebra.proofs.Tests.{and-left, and-right}
-use Rattle.refusal.specs.Chain.{first, answer, done, refused, outside}
+use Rattle.refusal.specs.Chain.{first, outcome, done, refused, outside}
 use Rattle.refusal.proofs.Chains.{inside-low, inside-high, over}
 use Rattle.field.specs.declared.Modulus.{Modulus}
 use Rattle.field.specs.declared.Modulus.the-variants.{Q13, Q257, Q65537}
@@ -165,10 +165,10 @@ not-named n e = go (named n) (names n)
     go (Is m) i = absurd (true≢false (sym e ∙ is-number n m i))
     go Unknown u = refl
 
-pub told-named : (n : ℕ) → told (named n) ≡ answer (first ((noModulus n, 1) ∷ [])) (done (n ∷ [])) refused
-unfolding first answer
+pub told-named : (n : ℕ) → told (named n) ≡ outcome (first ((noModulus n, 1) ∷ [])) (done (n ∷ [])) refused
+unfolding first outcome
 told-named n = go (named n) (names n)
   where
-    go : (x : Named) → Names n x → told x ≡ answer (first ((noModulus n, 1) ∷ [])) (done (n ∷ [])) refused
+    go : (x : Named) → Names n x → told x ≡ outcome (first ((noModulus n, 1) ∷ [])) (done (n ∷ [])) refused
     go (Is m) i = rw (is-number n m i, i)
     go Unknown u = rw u

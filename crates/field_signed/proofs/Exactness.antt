@@ -28,7 +28,7 @@ use Rattle.field.proofs.Moduli.{known-number}
 use Rattle.field_signed.specs.Signed.{half, signed, inRange, element, Taking, as-they-are, by-reading, taken, dot, Exact, signedTold}
 use Rattle.field_signed.specs.Readings.{ExactReading}
 use Rattle.field_signed.proofs.Readings.{in-neg, element-below, signed-element}
-use Rattle.field_signed.proofs.Answers.{signed-value}
+use Rattle.field_signed.proofs.Outcomes.{signed-value}
 
 unfoldable pub residue : ℕ → ℤ → ℕ
 residue p (pos n) = n

@@ -1,5 +1,5 @@
 -- Laws of signed reading: it and its way back, what they answer, exactness, and the words that hold them.
 pub mod Readings
-pub mod Answers
+pub mod Outcomes
 pub mod Exactness
 pub mod Words

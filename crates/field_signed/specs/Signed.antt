@@ -6,8 +6,8 @@
 --   element q z         == the way back, for z in that range: z where it is not below 0, else q + z
 --   signedTests n v     == the refusals of signed reading at modulus number n, in the sheet's order
 --   elementTests n z    == those of the way back
---   signedAnswer n v    == what signed reading answers
---   elementAnswer n z   == what the way back answers
+--   signedOutcome n v    == what signed reading answers
+--   elementOutcome n z   == what the way back answers
 --   signedTold r        == what an answer of signed reading is on paper: its number, 0 where it is a value, and that value
 --   elementTold r       == the same of the way back
 --   Taking              == how the elements of A and B are taken: as they are, or all by their signed reading
@@ -23,7 +23,7 @@ use lib.Dec.{leb, ltb}
 use lib.IntN.{ℤ, pos, negsuc, negℤ, _+ℤ_, _-ℤ_, _*ℤ_}
 use lib.Signed.{leZ}
 use Rattle.algebra.specs.Sums.{sum}
-use Rattle.refusal.specs.Chain.{Row, first, answer, Told, done, refused}
+use Rattle.refusal.specs.Chain.{Test, first, outcome, Told, done, refused}
 use Rattle.field_signed.specs.declared.Signed.{Signed}
 use Rattle.field_signed.specs.declared.Element.{Element}
 use Rattle.field.specs.Modulus.{modulus, noModulus}
@@ -42,17 +42,17 @@ unfoldable pub element : ℕ → ℤ → ℕ
 element q (pos n) = n
 element q (negsuc n) = q - suc n
 
-unfoldable pub signedTests : ℕ → ℕ → List Row
+unfoldable pub signedTests : ℕ → ℕ → List Test
 signedTests number v = (noModulus number, 1) ∷ (not (ltb v (modulus number)), 14) ∷ []
 
-unfoldable pub elementTests : ℕ → ℤ → List Row
+unfoldable pub elementTests : ℕ → ℤ → List Test
 elementTests number z = (noModulus number, 1) ∷ (not (inRange (modulus number) z), 25) ∷ []
 
-unfoldable pub signedAnswer : ℕ → ℕ → Signed
-signedAnswer number v = answer (first (signedTests number v)) (Signed.Value (signed (modulus number) v)) Signed.Refused
+unfoldable pub signedOutcome : ℕ → ℕ → Signed
+signedOutcome number v = outcome (first (signedTests number v)) (Signed.Value (signed (modulus number) v)) Signed.Refused
 
-unfoldable pub elementAnswer : ℕ → ℤ → Element
-elementAnswer number z = answer (first (elementTests number z)) (Element.Value (element (modulus number) z)) Element.Refused
+unfoldable pub elementOutcome : ℕ → ℤ → Element
+elementOutcome number z = outcome (first (elementTests number z)) (Element.Value (element (modulus number) z)) Element.Refused
 
 unfoldable pub signedTold : Signed → Told ℤ
 signedTold (Signed.Value z) = done (z ∷ [])

@@ -1,7 +1,7 @@
 // Elements as signed whole numbers (01, "Signed reading").
 use field::Named;
 ghost use mathlib.Core.Path.{_≡_};
-ghost use Rattle.field_signed.specs.Signed.{signedAnswer, elementAnswer};
+ghost use Rattle.field_signed.specs.Signed.{signedOutcome, elementOutcome};
 
 // What signed reading answers.
 pub enum Signed {
@@ -17,7 +17,7 @@ pub enum Element {
 
 // The signed reading of element v: v up to half of q, and v - q above.
 pub fn signed_reading(number: u32, v: u32) -> Signed
-    ensures { λ r. ⌜ r ≡ signedAnswer number v ⌝ }
+    ensures { λ r. ⌜ r ≡ signedOutcome number v ⌝ }
 {
     let Named::Is(modulus) = field::modulus_named(number) else {
         return Signed::Refused(refusal::MODULUS);
@@ -35,7 +35,7 @@ pub fn signed_reading(number: u32, v: u32) -> Signed
 
 // The way back: the element whose signed reading is the value.
 pub fn element_of(number: u32, value: i64) -> Element
-    ensures { λ r. ⌜ r ≡ elementAnswer number value ⌝ }
+    ensures { λ r. ⌜ r ≡ elementOutcome number value ⌝ }
 {
     let Named::Is(modulus) = field::modulus_named(number) else {
         return Element::Refused(refusal::MODULUS);

@@ -4,17 +4,21 @@
 --   less-one                    one row less
 --   follows-first               layout 1 has A outside
 --   follows-second              layout 2 has B outside
+--   exponent-is                 the strides' exponents are the layout's
 --   first-chosen, second-chosen the choice, by the two numbers of answers needed
 use mathlib.Core.Path.{_≡_, refl, sym, ap, _∙_}
-use Prim.Native.Nat.{ℕ, zero, suc, _+_, _-_, _*_, _^_, _<_, _≤_}
-use native.Mathlib.Nat.{mul-le-mul}
+use Prim.Native.Nat.{ℕ, zero, suc, _+_, _-_, _*_, _^_, _%_, _<_, _≤_}
+use native.Mathlib.Nat.{mul-le-mul, mod-eq-of-lt}
 use native.Mathlib.Omega.{arith}
 use borrow.Author.Tests.{le-leb, lt-leb}
 use Rattle.layout.specs.declared.Parameters.{Parameters}
+use Rattle.layout.specs.declared.Series.{Series}
+use Rattle.layout.specs.declared.Series.the-variants.{BlocksA, MasksA, BlocksB, MasksB, Places}
+use Rattle.layout.specs.declared.Strides.{Strides}
 use Rattle.layout.specs.declared.Nest.{Nest}
 use Rattle.layout.specs.declared.Layout.the-variants.{First, Second}
-use Rattle.layout.specs.Exponents.{exponents, layout1, layout2, strideD, strideE, better, choice}
-use Rattle.layout.specs.Strides.{Follows, Nested}
+use Rattle.layout.specs.Exponents.{Exponents, exponents, layout1, layout2, strideD, strideE, better, choice, term}
+use Rattle.layout.specs.Contracts.{exponentBy, Follows, Nested}
 
 pub small-stride : (i p x : ℕ) → i < 2 ^ 8 → p < 2 ^ 8 → x < 2 ^ 8 → i * p + x < 2 ^ 16
 small-stride i p x hi hp hx =
@@ -38,37 +42,44 @@ last-term j zero = omega arith
 last-term j (suc p) = omega arith
 
 module _ (g : Parameters) (s : Nest) where
-  pub follows-first : Nested (g .m) (g .p) (g .n) (g .xa) (g .xb) s → g .p < 2 ^ 8
-      → Follows (record { «stride_a» = s .stride; «mask_a» = s .«outer_mask»; «stride_b» = g .p; «mask_b» = s .«inner_mask»; needed = s .needed }) g (exponents First g)
+  pub follows-first : Nested (g .m) (g .p) (g .n) (g .xa) (g .xb) s → s .stride < 2 ^ 16
+      → Follows (record { «stride_a» = s .stride; «mask_a» = s .«outer_mask»; «stride_b» = g .p; «mask_b» = s .«inner_mask»; p = g .p; needed = s .needed }) g (exponents First g)
   unfolding exponents layout1 strideD
-  follows-first h hp = record {
+  follows-first h hs = record {
+    p = refl;
     blockA = λ k l. ap (λ (d : ℕ). k * d + l) (sym (h .stride));
     maskA = λ x. ap (λ (d : ℕ). (g .m - 1) * d + g .n * g .p + x) (sym (h .stride)) ∙ ap (λ (d : ℕ). d + x) (sym (h .outer-mask));
     blockB = λ l j. refl;
     maskB = λ x. ap (λ (d : ℕ). d + x) (sym (h .inner-mask));
     place = λ k j. omega (arith, ap (λ (d : ℕ). k * d) (h .stride), last-term j (g .p));
     needed = ap (λ (d : ℕ). (g .m + 1) * d + g .xa - g .xb - 1) (sym (h .stride)) ∙ sym (h .needed);
-    smallA = h .small;
-    smallB = omega arith;
     small-maskA = h .small-outer;
-    small-maskB = omega (arith, h .inner-mask, h .stride, h .small);
+    small-maskB = omega (arith, h .inner-mask, h .stride, hs);
   }
 
-  pub follows-second : Nested (g .n) (g .p) (g .m) (g .xb) (g .xa) s → g .p < 2 ^ 8
-      → Follows (record { «stride_a» = g .p; «mask_a» = s .«inner_mask»; «stride_b» = s .stride; «mask_b» = s .«outer_mask»; needed = s .needed }) g (exponents Second g)
+  pub follows-second : Nested (g .n) (g .p) (g .m) (g .xb) (g .xa) s → s .stride < 2 ^ 16
+      → Follows (record { «stride_a» = g .p; «mask_a» = s .«inner_mask»; «stride_b» = s .stride; «mask_b» = s .«outer_mask»; p = g .p; needed = s .needed }) g (exponents Second g)
   unfolding exponents layout2 strideE
-  follows-second h hp = record {
+  follows-second h hs = record {
+    p = refl;
     blockA = λ k l. refl;
     maskA = λ x. ap (λ (d : ℕ). d + x) (sym (h .inner-mask));
     blockB = λ l j. ap (λ (d : ℕ). j * d + (g .p - 1 - l)) (sym (h .stride));
     maskB = λ x. ap (λ (d : ℕ). (g .n - 1) * d + g .m * g .p + x) (sym (h .stride)) ∙ ap (λ (d : ℕ). d + x) (sym (h .outer-mask));
     place = λ k j. omega (arith, ap (λ (d : ℕ). j * d) (h .stride), last-term k (g .p));
     needed = ap (λ (d : ℕ). (g .n + 1) * d + g .xb - g .xa - 1) (sym (h .stride)) ∙ sym (h .needed);
-    smallA = omega arith;
-    smallB = h .small;
-    small-maskA = omega (arith, h .inner-mask, h .stride, h .small);
+    small-maskA = omega (arith, h .inner-mask, h .stride, hs);
     small-maskB = h .small-outer;
   }
+
+module _ {s : Strides} {g : Parameters} {e : Exponents} (f : Follows s g e) where
+  pub exponent-is : (series : Series) (i j : ℕ) → j < 2 ^ 8 → exponentBy s series i j ≡ term e series i j
+  unfolding exponentBy term
+  exponent-is BlocksA i j h = sym (f .blockA i j)
+  exponent-is MasksA i j h = mod-eq-of-lt (omega (arith, f .small-maskA)) ∙ sym (f .maskA j)
+  exponent-is BlocksB i j h = ap (λ (p : ℕ). j * s .«stride_b» + (p - 1 - i)) (f .p) ∙ sym (f .blockB i j)
+  exponent-is MasksB i j h = mod-eq-of-lt (omega (arith, f .small-maskB)) ∙ sym (f .maskB j)
+  exponent-is Places i j h = ap (λ (p : ℕ). i * s .«stride_a» + (j * s .«stride_b» + (p - 1))) (f .p) ∙ sym (f .place i j)
 
 module _ (g : Parameters) {a b : ℕ} (first : a ≡ exponents First g .needed) (second : b ≡ exponents Second g .needed) where
   pub first-chosen : a ≤ b → First ≡ choice g

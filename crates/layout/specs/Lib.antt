@@ -1,5 +1,5 @@
 -- Layouts: which exponents the blocks, the masks and the table have.
 pub mod Exponents
-pub mod Strides
+pub mod Contracts
 pub mod Sound
 pub mod Layouts

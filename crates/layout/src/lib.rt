@@ -2,8 +2,9 @@
 // The numbers of cuts and the group sizes are u8, so that every exponent fits a u32 and nothing has to be refused here.
 ghost use mathlib.Core.Path.{_≡_};
 ghost use Prim.Native.Nat.{_+_, _-_, _*_, _^_, _<_};
-ghost use Rattle.layout.specs.Exponents.{exponents, choice, term};
-ghost use Rattle.layout.specs.Strides.{Follows, Nested};
+ghost use Rattle.layout.specs.Exponents.{exponents, choice};
+ghost use Rattle.layout.specs.Contracts.{exponentBy, Follows, Nested};
+use std::num::wrapping_add_u32;
 
 // How the matrices are cut, m by p and p by n blocks, and the largest groups kept ignorant of A and of B.
 pub struct Parameters {
@@ -29,19 +30,20 @@ pub enum Series {
     Places,
 }
 
-// What a layout's exponents are made of: the strides of A's rows and B's columns of blocks, the first masks' exponents,
-// and the number of answers needed.
-struct Strides {
-    stride_a: u32,
-    mask_a: u32,
-    stride_b: u32,
-    mask_b: u32,
-    needed: u32,
+// What a layout's exponents are made of: the strides of A's rows and B's columns of blocks, the first masks' exponents, p, and
+// the number of answers needed. They are worked out once a call, by strides_of.
+pub struct Strides {
+    pub stride_a: u16,
+    pub mask_a: u32,
+    pub stride_b: u16,
+    pub mask_b: u32,
+    pub p: u8,
+    pub needed: u32,
 }
 
 // A layout of an outer side, which has the larger stride, and an inner side, whose stride is p.
 struct Nest {
-    stride: u32,
+    stride: u16,
     outer_mask: u32,
     inner_mask: u32,
     needed: u32,
@@ -55,22 +57,22 @@ fn minus(a: u32, b: u32) -> u32
 }
 
 // count times stride, plus rest.
-fn combine(count: u8, stride: u32, rest: u32) -> u32
-    requires { ⌜ (stride < 2 ^ 16) × (rest < 2 ^ 25) ⌝ }
+fn strided(count: u8, stride: u16, rest: u32) -> u32
+    requires { ⌜ rest < 2 ^ 25 ⌝ }
     ensures { λ r. ⌜ r ≡ count * stride + rest ⌝ }
 {
-    count as u32 * stride + rest
+    count as u32 * stride as u32 + rest
 }
 
 // The layout whose outer side, with the outer masks, strides over all that the inner side has.
 fn nested(outer: u8, p: u8, inner: u8, outer_masks: u8, inner_masks: u8) -> Nest
     ensures { λ r. ⌜ Nested outer p inner «outer_masks» «inner_masks» r ⌝ }
 {
-    let blocks = combine(inner, p as u32, 0);
-    let stride = combine(inner, p as u32, inner_masks as u32);
-    let rows = combine(outer, stride, 0);
+    let blocks = strided(inner, p as u16, 0);
+    let stride = strided(inner, p as u16, inner_masks as u32);
+    let rows = strided(outer, stride as u16, 0);
     Nest {
-        stride,
+        stride: stride as u16,
         outer_mask: minus(rows, stride) + blocks,
         inner_mask: blocks,
         needed: minus(rows + stride + outer_masks as u32, inner_masks as u32 + 1),
@@ -78,7 +80,7 @@ fn nested(outer: u8, p: u8, inner: u8, outer_masks: u8, inner_masks: u8) -> Nest
 }
 
 // The strides of a layout: in layout 1 A is the outer side, in layout 2 B.
-fn strides_of(layout: Layout, g: Parameters) -> Strides
+pub fn strides_of(layout: Layout, g: Parameters) -> Strides
     ensures { λ r. ⌜ Follows r g (exponents layout g) ⌝ }
 {
     match layout {
@@ -87,18 +89,20 @@ fn strides_of(layout: Layout, g: Parameters) -> Strides
             Strides {
                 stride_a: s.stride,
                 mask_a: s.outer_mask,
-                stride_b: g.p as u32,
+                stride_b: g.p as u16,
                 mask_b: s.inner_mask,
+                p: g.p,
                 needed: s.needed,
             }
         }
         Layout::Second => {
             let s = nested(g.n, g.p, g.m, g.xb, g.xa);
             Strides {
-                stride_a: g.p as u32,
+                stride_a: g.p as u16,
                 mask_a: s.inner_mask,
                 stride_b: s.stride,
                 mask_b: s.outer_mask,
+                p: g.p,
                 needed: s.needed,
             }
         }
@@ -125,15 +129,15 @@ pub fn choose(g: Parameters) -> Layout
 }
 
 // The exponent or place of a series at row i and column j, both from 0; a mask has a column alone.
-pub fn exponent_of(series: Series, layout: Layout, g: Parameters, i: u8, j: u8) -> u32
-    ensures { λ r. ⌜ r ≡ term (exponents layout g) series i j ⌝ }
+pub fn exponent_of(series: Series, s: Strides, i: u8, j: u8) -> u32
+    ensures { λ r. ⌜ r ≡ exponentBy s series i j ⌝ }
 {
-    let s = strides_of(layout, g);
+    let last = minus(s.p as u32, 1);
     match series {
-        Series::BlocksA => combine(i, s.stride_a, j as u32),
-        Series::MasksA => s.mask_a + j as u32,
-        Series::BlocksB => combine(j, s.stride_b, minus(minus(g.p as u32, 1), i as u32)),
-        Series::MasksB => s.mask_b + j as u32,
-        Series::Places => combine(i, s.stride_a, combine(j, s.stride_b, minus(g.p as u32, 1))),
+        Series::BlocksA => strided(i, s.stride_a, j as u32),
+        Series::MasksA => wrapping_add_u32(s.mask_a, j as u32),
+        Series::BlocksB => strided(j, s.stride_b, minus(last, i as u32)),
+        Series::MasksB => wrapping_add_u32(s.mask_b, j as u32),
+        Series::Places => strided(i, s.stride_a, strided(j, s.stride_b, last)),
     }
 }

@@ -12,7 +12,7 @@ use native.Mathlib.Nat.{mul-le-mul}
 use native.Mathlib.Omega.{arith}
 use lib.ListN.{length, length-append}
 use Rattle.algebra.specs.Lists.{tab, grid}
-use Rattle.refusal.specs.Chain.{first, answer}
+use Rattle.refusal.specs.Chain.{first, outcome}
 use Rattle.field.specs.Modulus.{prime}
 use Rattle.layout.specs.declared.Parameters.{Parameters}
 use Rattle.layout.specs.declared.Series.the-variants.{BlocksA, MasksA, BlocksB, MasksB, Places}
@@ -178,10 +178,10 @@ module _ (job : Job) (fits : Fits job) where
       omega (arith, length-append n (a ++ (b ++ c)), length-append a (b ++ c), length-append b c, number-room, a-room, b-room, c-room)
 
 reply-room : (job : Job) → length (reply job) ≤ 4096
-unfolding reply told planned answer
+unfolding reply told planned outcome
 reply-room job = go (first (planTests job (tab suc (job .hosts)))) refl
   where
-    go : (n : ℕ) → first (planTests job (tab suc (job .hosts))) ≡ n → length (told (job .hosts) (answer n (Accepted (planOf job)) Refused)) ≤ 4096
+    go : (n : ℕ) → first (planTests job (tab suc (job .hosts))) ≡ n → length (told (job .hosts) (outcome n (Accepted (planOf job)) Refused)) ≤ 4096
     go zero e = plan-room job (facts job (tab suc (job .hosts)) e .fits)
     go (suc n) e = refused-room (suc n)
 

@@ -2,5 +2,5 @@
 pub mod Tests
 pub mod Fields
 pub mod Parts
-pub mod Answers
+pub mod Outcomes
 pub mod RoundTrips

@@ -25,11 +25,11 @@ use Rattle.message_header.specs.declared.Reading.the-variants.{Done, Refused}
 use Rattle.message_header.specs.Header.{header, headerOf, elementCount, fieldTests, fields, told}
 use Rattle.message_header.proofs.Fields.{Ranged, ranged}
 use Rattle.message_header.proofs.Headers.{length-header, header-bytes, mark-header, version-header, headerOf-header, header-headerOf}
-use Rattle.message_header.proofs.Answers.{done-by, done-told, told-done}
+use Rattle.message_header.proofs.Outcomes.{done-by, done-told, told-done}
 use Rattle.message.specs.Format.{messageOf, payload, elements, elementTest, writeTests, messageTests, written, examined, readAs, readInto}
 use Rattle.message.specs.RoundTrips.{ReadsBack, IsWritten, RoundTrips}
 use Rattle.message.proofs.Fields.{Writable, writable, writes, Readable, readable, reads, small}
-use Rattle.message.proofs.Answers.{written-done, read-short, read-long, read-done}
+use Rattle.message.proofs.Outcomes.{written-done, read-short, read-long, read-done}
 
 module _ (h : Header) (xs : List ℕ) (room : ℕ) (number : h .number < 2 ^ 32) (accepted : first (writeTests h xs room) ≡ 0) where
   w : Writable h xs room

@@ -9,7 +9,7 @@ use mathlib.Core.List.{List, [], _∷_}
 use Prim.Native.Nat.{ℕ}
 use lib.ListN.{length}
 use Rattle.algebra.specs.Lists.{allBelow}
-use Rattle.refusal.specs.Chain.{Row, first}
+use Rattle.refusal.specs.Chain.{Test, first}
 use Rattle.refusal.proofs.Chains.{first-none, first-hit, first-miss, first-append, first-append-hit}
 use Rattle.field.specs.declared.Modulus.{Modulus}
 use Rattle.field.specs.declared.Named.the-variants.{Is}
@@ -25,11 +25,11 @@ unfolding elementTest
 element-named n xs e = ap (λ (q : ℕ). not (allBelow q xs)) (known n e refl .is)
 
 -- the tests after those of the fields
-write-ends : Header → List ℕ → ℕ → List Row
+write-ends : Header → List ℕ → ℕ → List Test
 write-ends h xs room = (writeLengthTest h (length xs) room, 13) ∷ (elementTest (h .modulus) xs, 14) ∷ []
 
 -- the tests after those of the header
-message-ends : List ℕ → List Row
+message-ends : List ℕ → List Test
 message-ends message = (lengthTest message, 20) ∷ (elementTest (headerOf message .modulus) (elements message), 14) ∷ []
 
 module _ (h : Header) (xs : List ℕ) (room : ℕ) where

@@ -15,7 +15,7 @@ use Prim.Native.Nat.{ℕ, _+_, _*_}
 use lib.Dec.{eqb, ltb}
 use lib.ListN.{length, drop}
 use Rattle.algebra.specs.Lists.{allBelow}
-use Rattle.refusal.specs.Chain.{Row, first, answer}
+use Rattle.refusal.specs.Chain.{Test, first, outcome}
 use Rattle.field.specs.Modulus.{modulus}
 use Rattle.message_bytes.specs.Bytes.{bytesOf, elementsOf}
 use Rattle.message_header.specs.declared.Header.{Header}
@@ -40,7 +40,7 @@ elementTest n xs = not (allBelow (modulus n) xs)
 unfoldable pub writeLengthTest : Header → ℕ → ℕ → Bool
 writeLengthTest h count room = not (eqb count (elementCount h)) || not (eqb room (16 + 4 * elementCount h))
 
-unfoldable pub writeTests : Header → List ℕ → ℕ → List Row
+unfoldable pub writeTests : Header → List ℕ → ℕ → List Test
 writeTests h xs room =
     fieldTests h
     ++ ((writeLengthTest h (length xs) room, 13)
@@ -50,25 +50,25 @@ writeTests h xs room =
 unfoldable pub lengthTest : List ℕ → Bool
 lengthTest message = not (eqb (length message) (16 + 4 * elementCount (headerOf message)))
 
-unfoldable pub messageTests : List ℕ → List Row
+unfoldable pub messageTests : List ℕ → List Test
 messageTests message =
     headerTests message
     ++ ((lengthTest message, 20)
     ∷ (elementTest (headerOf message .modulus) (elements message), 14)
     ∷ [])
 
-unfoldable pub readTests : List ℕ → ℕ → List Row
+unfoldable pub readTests : List ℕ → ℕ → List Test
 readTests message room = (ltb room 4096, 13) ∷ messageTests message
 
 unfoldable pub written : Header → List ℕ → List ℕ → List ℕ
-written h xs out = answer (first (writeTests h xs (length out))) (messageOf h xs) (λ n. out)
+written h xs out = outcome (first (writeTests h xs (length out))) (messageOf h xs) (λ n. out)
 
 unfoldable pub examined : List ℕ → Reading
-examined message = answer (first (messageTests message)) (Done (headerOf message)) Refused
+examined message = outcome (first (messageTests message)) (Done (headerOf message)) Refused
 
 unfoldable pub readAs : List ℕ → ℕ → Reading
-readAs message room = answer (first (readTests message room)) (Done (headerOf message)) Refused
+readAs message room = outcome (first (readTests message room)) (Done (headerOf message)) Refused
 
 unfoldable pub readInto : List ℕ → List ℕ → List ℕ
 readInto message out =
-    answer (first (readTests message (length out))) (elements message ++ drop (elementCount (headerOf message)) out) (λ n. out)
+    outcome (first (readTests message (length out))) (elements message ++ drop (elementCount (headerOf message)) out) (λ n. out)

@@ -70,7 +70,7 @@ pub fn examine(message: &[u8]) -> Reading
 
 // Reads a message: tells its fields and writes its elements, or is refused by number and writes nothing.
 pub fn read_message(message: &[u8], out: &mut [u32]) -> Reading
-    ensures answer { λ r. ⌜ r ≡ readAs (now (message .entry)) (length (now (out .entry))) ⌝ }
+    ensures outcome { λ r. ⌜ r ≡ readAs (now (message .entry)) (length (now (out .entry))) ⌝ }
     ensures elements { λ _. ⌜ now (out .exit) ≡ readInto (now (message .entry)) (now (out .entry)) ⌝ }
 {
     if out.len() < READ_ROOM {

@@ -2,4 +2,4 @@
 pub mod Tests
 pub mod Fields
 pub mod Headers
-pub mod Answers
+pub mod Outcomes

@@ -15,7 +15,7 @@ use mathlib.Core.List.{List, [], _∷_, _++_}
 use Prim.Native.Nat.{ℕ, _*_}
 use lib.Dec.{eqb, ltb}
 use lib.ListN.{length}
-use Rattle.refusal.specs.Chain.{Row, first, answer, Told, done, refused, outside}
+use Rattle.refusal.specs.Chain.{Test, first, outcome, Told, done, refused, outside}
 use Rattle.field.specs.Modulus.{noModulus}
 use Rattle.message_bytes.specs.Bytes.{bigEndian, numberAt}
 use Rattle.message_header.specs.declared.Header.{Header}
@@ -65,7 +65,7 @@ sizeTest h = outside 1 16384 (h .rows) || outside 1 16384 (h .columns)
 unfoldable pub blockTest : Header → Bool
 blockTest h = ltb 4096 (elementCount h)
 
-unfoldable pub fieldTests : Header → List Row
+unfoldable pub fieldTests : Header → List Test
 fieldTests h =
     (kindTest h, 16) ∷ (noModulus (h .modulus), 1) ∷ (hostTest h, 12) ∷ (sizeTest h, 2) ∷ (blockTest h, 6) ∷ []
 
@@ -75,12 +75,12 @@ markTest message = not (eqb (numberAt message 0 3) mark)
 unfoldable pub versionTest : List ℕ → Bool
 versionTest message = not (eqb (numberAt message 3 2) version)
 
-unfoldable pub headerTests : List ℕ → List Row
+unfoldable pub headerTests : List ℕ → List Test
 headerTests message =
     (ltb (length message) 16, 17) ∷ (markTest message, 18) ∷ (versionTest message, 19) ∷ fieldTests (headerOf message)
 
 unfoldable pub headerRead : List ℕ → Reading
-headerRead message = answer (first (headerTests message)) (Done (headerOf message)) Refused
+headerRead message = outcome (first (headerTests message)) (Done (headerOf message)) Refused
 
 unfoldable pub fields : Header → List ℕ
 fields h = h .kind ∷ h .modulus ∷ h .host ∷ h .rows ∷ h .columns ∷ h .number ∷ []

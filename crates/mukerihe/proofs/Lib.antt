@@ -1,2 +1,2 @@
 -- Laws of the host's product on bytes.
-pub mod Answers
+pub mod Outcomes

@@ -11,7 +11,7 @@ use Prim.Native.Nat.{ℕ, _*_}
 use lib.Dec.{eqb}
 use lib.ListN.{length}
 use Rattle.algebra.specs.Lists.{allBelow}
-use Rattle.refusal.specs.Chain.{Row, first, answer}
+use Rattle.refusal.specs.Chain.{Test, first, outcome}
 use Rattle.refusal.specs.Limits.{sizesOutside, overBlock}
 use Rattle.field.specs.Modulus.{modulus, noModulus}
 use Rattle.message_bytes.specs.Bytes.{bytesOf, elementsOf}
@@ -22,7 +22,7 @@ byteLengthTest rows inner columns a b out =
     not (eqb a (4 * (rows * inner))) || not (eqb b (4 * (inner * columns))) || not (eqb out (4 * (rows * columns)))
 
 -- n is the modulus number, a and b are bytes, and room is how many bytes the output has room for
-unfoldable pub hostTests : ℕ → ℕ → ℕ → ℕ → List ℕ → List ℕ → ℕ → List Row
+unfoldable pub hostTests : ℕ → ℕ → ℕ → ℕ → List ℕ → List ℕ → ℕ → List Test
 hostTests n rows inner columns a b room =
     (noModulus n, 1)
     ∷ (sizesOutside rows inner columns, 2)
@@ -37,4 +37,4 @@ hostProduct n rows inner columns a b =
 
 unfoldable pub hostAfter : ℕ → ℕ → ℕ → ℕ → List ℕ → List ℕ → List ℕ → List ℕ
 hostAfter n rows inner columns a b out =
-    answer (first (hostTests n rows inner columns a b (length out))) (hostProduct n rows inner columns a b) (λ r. out)
+    outcome (first (hostTests n rows inner columns a b (length out))) (hostProduct n rows inner columns a b) (λ r. out)

@@ -17,7 +17,7 @@ use borrow.Author.Tests.{ltb-false, leb-false, eqb-false}
 use Rattle.algebra.specs.Lists.{AllBelow, Distinct}
 use Rattle.algebra.proofs.Orders.{le-or-lt}
 use Rattle.algebra.proofs.Tests.{or-left, or-right, or-all, equal}
-use Rattle.refusal.specs.Chain.{Row, first, answer, outside}
+use Rattle.refusal.specs.Chain.{Test, first, outcome, outside}
 use Rattle.refusal.proofs.Chains.{first-clear, first-append-clear, first-append-hit, numbered, inside-low, inside-high}
 use Rattle.refusal.proofs.Limits.{blocks-fit}
 use Rattle.field.specs.Modulus.{noModulus}
@@ -25,7 +25,7 @@ use Rattle.field.proofs.Moduli.{Known, known-number}
 use Rattle.plan.specs.declared.Job.{Job}
 use Rattle.plan.specs.declared.Plan.{Plan}
 use Rattle.plan.specs.declared.Planned.the-variants.{Accepted, Refused}
-use Rattle.plan.specs.Planning.{prime, blockRows, blockInner, blockColumns, neededOf, planOf, divisionTest, blockTest, hostsTest, neededTest, rangeTests, fitTests, member, pointRows, pointsRows, pointTests, planTests, planned}
+use Rattle.plan.specs.Planning.{prime, blockRows, blockInner, blockColumns, neededOf, planOf, divisionTest, blockTest, hostsTest, neededTest, rangeTests, fitTests, member, pointTestsAt, allPointTests, pointTests, planTests, planned}
 use Rattle.plan.proofs.Ranges.{Ranged, ranged}
 use Rattle.plan.proofs.Points.{member-at, points-numbered}
 
@@ -80,20 +80,20 @@ module _ (job : Job) (modulus : noModulus (job .modulus) ≡ false) (range : fir
 
 module _ (q : ℕ) (points : List ℕ) where
   -- the tests of each point passed
-  each : (n : ℕ) → first (pointsRows q points n) ≡ 0 → (i : ℕ) → i < n → first (pointRows q points i) ≡ 0
-  unfolding pointsRows
+  each : (n : ℕ) → first (allPointTests q points n) ≡ 0 → (i : ℕ) → i < n → first (pointTestsAt q points i) ≡ 0
+  unfolding allPointTests
   each zero e i h = absurd (not-suc-le-zero h)
   each (suc n) e i h =
-      let parts = first-append-clear (pointsRows q points n) (pointRows q points n) (points-numbered q points n) e in
-      ⊎-elim (λ (s : i ≡ n). ap (λ (k : ℕ). first (pointRows q points k)) s ∙ parts .1)
+      let parts = first-append-clear (allPointTests q points n) (pointTestsAt q points n) (points-numbered q points n) e in
+      ⊎-elim (λ (s : i ≡ n). ap (λ (k : ℕ). first (pointTestsAt q points k)) s ∙ parts .1)
       (λ (l : i < n). each n (parts .0) i l) (eq-or-lt-of-le (le-of-suc-le-suc h))
 
-  module _ (i : ℕ) (e : first (pointRows q points i) ≡ 0) where
+  module _ (i : ℕ) (e : first (pointTestsAt q points i) ≡ 0) where
     x : ℕ
     x = getD points i 0
 
     good : (eqb x 0 || leb q x) ≡ false
-    unfolding pointRows x
+    unfolding pointTestsAt x
     good = first-clear (eqb x 0 || leb q x) 9 _ e .0
 
     pos : 0 < getD points i 0
@@ -105,11 +105,11 @@ module _ (q : ℕ) (points : List ℕ) where
     below = leb-false q x (or-right (eqb x 0) (leb q x) good)
 
     new : member (getD points i 0) (take i points) ≡ false
-    unfolding pointRows x
+    unfolding pointTestsAt x
     new = first-clear (member x (take i points)) 10 _ (first-clear (eqb x 0 || leb q x) 9 _ e .1) .0
 
   -- an earlier point is another number
-  apart : (i j : ℕ) → first (pointRows q points j) ≡ 0 → i < j → j < length points → getD points i 0 ≡ getD points j 0 → ⊥
+  apart : (i j : ℕ) → first (pointTestsAt q points j) ≡ 0 → i < j → j < length points → getD points i 0 ≡ getD points j 0 → ⊥
   apart i j e h l s = true≢false (sym (member-at points j i (getD points j 0) h (omega arith) s) ∙ new j e)
 
 -- ---- the whole
@@ -134,22 +134,22 @@ module _ (job : Job) (points : List ℕ) where
       }
 
   pub planned-facts : {plan : Plan} → planned job points ≡ Accepted plan → (first (planTests job points) ≡ 0) × (plan ≡ planOf job)
-  unfolding planned answer
+  unfolding planned outcome
   planned-facts {plan} e = go (first (planTests job points)) refl e
     where
-      go : (n : ℕ) → first (planTests job points) ≡ n → answer n (Accepted (planOf job)) Refused ≡ Accepted plan
+      go : (n : ℕ) → first (planTests job points) ≡ n → outcome n (Accepted (planOf job)) Refused ≡ Accepted plan
           → (first (planTests job points) ≡ 0) × (plan ≡ planOf job)
       go zero is e = (is, cc)
       go (suc n) is e = let z : _≡_ {A = ℕ} 1 0 = cc in absurd (suc-ne-zero 0 z)
 
 -- the tests 1 to 8
-fronts : Job → List Row
+fronts : Job → List Test
 fronts job = (noModulus (job .modulus), 1) ∷ (rangeTests job ++ fitTests job)
 
 fronts-first : (job : Job) (points : List ℕ) → planTests job points ≡ fronts job ++ pointTests (prime job) (job .hosts) points
 unfolding planTests fronts
 fronts-first job points =
-    ap (λ (rows : List Row). (noModulus (job .modulus), 1) ∷ rows)
+    ap (λ (rows : List Test). (noModulus (job .modulus), 1) ∷ rows)
     (sym (append-assoc (rangeTests job) (fitTests job) (pointTests (prime job) (job .hosts) points)))
 
 too-many : (job : Job) → 64 < job .hosts → first (fronts job) ≡ 0 → ⊥
@@ -161,7 +161,7 @@ too-many job h e =
 
 pub points-unseen : (job : Job) (xs ys : List ℕ) → 64 < job .hosts → planned job xs ≡ planned job ys
 unfolding planned
-points-unseen job xs ys h = ap (λ (n : ℕ). answer n (Accepted (planOf job)) Refused) (told xs ∙ sym (told ys))
+points-unseen job xs ys h = ap (λ (n : ℕ). outcome n (Accepted (planOf job)) Refused) (told xs ∙ sym (told ys))
   where
     told : (zs : List ℕ) → first (planTests job zs) ≡ first (fronts job)
     told zs = ap first (fronts-first job zs) ∙ first-append-hit (fronts job) _ (first (fronts job)) (too-many job h) refl

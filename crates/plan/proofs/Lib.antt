@@ -1,7 +1,7 @@
 -- Laws of planning.
 pub mod Ranges
 pub mod Points
-pub mod Answers
+pub mod Outcomes
 pub mod Facts
 pub mod Then
 pub mod Sizes

@@ -20,7 +20,7 @@ use borrow.Author.Tests.{eq-eqb, ne-eqb}
 use Rattle.algebra.proofs.Tests.{or-true, or-false, or-assoc}
 use Rattle.refusal.specs.Chain.{first}
 use Rattle.refusal.proofs.Chains.{first-hit, first-miss, numbered, numbered-append, first-append, first-append-hit}
-use Rattle.plan.specs.Planning.{member, pointRows, pointsRows, pointTests}
+use Rattle.plan.specs.Planning.{member, pointTestsAt, allPointTests, pointTests}
 
 pub member-at : (xs : List ℕ) (n i x : ℕ) → i < n → i < length xs → getD xs i 0 ≡ x → member x (take n xs) ≡ true
 unfolding member
@@ -39,34 +39,34 @@ member-more (y ∷ ys) (suc i) x h =
     ∙ sym (or-assoc (eqb x y) (member x (take i ys)) (eqb x (getD ys i 0)))
 
 module _ (q : ℕ) (points : List ℕ) where
-  pub points-numbered : (n : ℕ) → T (numbered (pointsRows q points n))
-  unfolding pointsRows pointRows numbered
+  pub points-numbered : (n : ℕ) → T (numbered (allPointTests q points n))
+  unfolding allPointTests pointTestsAt numbered
   points-numbered zero = tt
-  points-numbered (suc n) = numbered-append (pointsRows q points n) (pointRows q points n) (points-numbered n) tt
+  points-numbered (suc n) = numbered-append (allPointTests q points n) (pointTestsAt q points n) (points-numbered n) tt
 
-  next-point : (i : ℕ) → first (pointsRows q points i) ≡ 0 → first (pointsRows q points (suc i)) ≡ first (pointRows q points i)
-  unfolding pointsRows
-  next-point i e = first-append (pointsRows q points i) (pointRows q points i) (points-numbered i) e
+  next-point : (i : ℕ) → first (allPointTests q points i) ≡ 0 → first (allPointTests q points (suc i)) ≡ first (pointTestsAt q points i)
+  unfolding allPointTests
+  next-point i e = first-append (allPointTests q points i) (pointTestsAt q points i) (points-numbered i) e
 
-  pub pass-point : (i : ℕ) → first (pointsRows q points i) ≡ 0 → first (pointRows q points i) ≡ 0 → first (pointsRows q points (i + 1)) ≡ 0
-  pass-point i e f = ap (λ (k : ℕ). first (pointsRows q points k)) (add-one i) ∙ next-point i e ∙ f
+  pub pass-point : (i : ℕ) → first (allPointTests q points i) ≡ 0 → first (pointTestsAt q points i) ≡ 0 → first (allPointTests q points (i + 1)) ≡ 0
+  pass-point i e f = ap (λ (k : ℕ). first (allPointTests q points k)) (add-one i) ∙ next-point i e ∙ f
 
   -- a number that the points up to m tell is told by more points too
-  keep : (m n r : ℕ) → m ≤ n → first (pointsRows q points m) ≡ suc r → first (pointsRows q points n) ≡ suc r
-  unfolding pointsRows
-  keep m zero r h e = let z : m ≡ 0 = omega arith in subst (λ (k : ℕ). first (pointsRows q points k) ≡ suc r) z e
+  keep : (m n r : ℕ) → m ≤ n → first (allPointTests q points m) ≡ suc r → first (allPointTests q points n) ≡ suc r
+  unfolding allPointTests
+  keep m zero r h e = let z : m ≡ 0 = omega arith in subst (λ (k : ℕ). first (allPointTests q points k) ≡ suc r) z e
   keep m (suc n) r h e =
-      ⊎-elim (λ (s : m ≡ suc n). subst (λ (k : ℕ). first (pointsRows q points k) ≡ suc r) s e)
-      (λ (l : m < suc n). first-append-hit (pointsRows q points n) (pointRows q points n) (suc r) (suc-ne-zero r) (keep m n r (le-of-suc-le-suc l) e))
+      ⊎-elim (λ (s : m ≡ suc n). subst (λ (k : ℕ). first (allPointTests q points k) ≡ suc r) s e)
+      (λ (l : m < suc n). first-append-hit (allPointTests q points n) (pointTestsAt q points n) (suc r) (suc-ne-zero r) (keep m n r (le-of-suc-le-suc l) e))
       (eq-or-lt-of-le h)
 
-  pub stop-point : (i n r : ℕ) → i < n → first (pointsRows q points i) ≡ 0 → first (pointRows q points i) ≡ suc r → first (pointsRows q points n) ≡ suc r
+  pub stop-point : (i n r : ℕ) → i < n → first (allPointTests q points i) ≡ 0 → first (pointTestsAt q points i) ≡ suc r → first (allPointTests q points n) ≡ suc r
   stop-point i n r h e f = keep (suc i) n r h (next-point i e ∙ f)
 
   pub length-differs : (hosts : ℕ) → (length points ≡ hosts → ⊥) → first (pointTests q hosts points) ≡ 9
   unfolding pointTests
   length-differs hosts ne = first-hit _ 9 _ (ap not (ne-eqb (length points) hosts ne))
 
-  pub length-same : (hosts : ℕ) → length points ≡ hosts → first (pointTests q hosts points) ≡ first (pointsRows q points (length points))
+  pub length-same : (hosts : ℕ) → length points ≡ hosts → first (pointTests q hosts points) ≡ first (allPointTests q points (length points))
   unfolding pointTests
   length-same hosts e = first-miss _ 9 _ (ap not (eq-eqb (length points) hosts e))

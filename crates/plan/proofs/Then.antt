@@ -10,7 +10,7 @@ use mathlib.Core.List.{List, _++_}
 use Prim.Native.Nat.{ℕ, zero, suc}
 use native.Mathlib.Nat.{suc-ne-zero}
 use lib.Dec.{T}
-use Rattle.refusal.specs.Chain.{Row, first, answer}
+use Rattle.refusal.specs.Chain.{Test, first, outcome}
 use Rattle.refusal.proofs.Chains.{first-append, first-append-hit, numbered}
 use Rattle.field.specs.declared.Named.{Named}
 use Rattle.field.specs.declared.Named.the-variants.{Is, Unknown}
@@ -27,12 +27,12 @@ pub plan-numbered : (job : Job) (points : List ℕ) → T (numbered (planTests j
 unfolding planTests rangeTests fitTests pointTests numbered
 plan-numbered job points = points-numbered (prime job) points _
 
-module _ (job : Job) (points : List ℕ) (rows : List Row) where
+module _ (job : Job) (points : List ℕ) (rows : List Test) where
   pub then-refused : {n : ℕ} → planned job points ≡ Refused n → (first (planTests job points ++ rows) ≡ n) × (n ≡ 0 → ⊥)
-  unfolding planned answer
+  unfolding planned outcome
   then-refused {n} e = go (first (planTests job points)) refl e
     where
-      go : (k : ℕ) → first (planTests job points) ≡ k → answer k (Accepted (planOf job)) Refused ≡ Refused n
+      go : (k : ℕ) → first (planTests job points) ≡ k → outcome k (Accepted (planOf job)) Refused ≡ Refused n
           → (first (planTests job points ++ rows) ≡ n) × (n ≡ 0 → ⊥)
       go zero is e = let z : _≡_ {A = ℕ} 1 0 = cc in absurd (suc-ne-zero 0 z)
       go (suc k) is e =

@@ -8,7 +8,7 @@
 --   layoutOf, neededOf   == the layout that the job has, and K, its number of answers needed
 --   sizeTest, cutTest ..  == the tests 2 to 8, each by itself
 --   rangeTests, fitTests  == the tests 2 to 4, of each number by itself, and 5 to 8, of the numbers together
---   pointRows q xs i     == the tests of point i
+--   pointTestsAt q xs i     == the tests of point i
 --   pointTests           == the tests of the points, 9 to 11
 --   planTests            == the tests of a plan, 1 to 11
 --   planOf               == the plan of an accepted job
@@ -20,7 +20,7 @@ use mathlib.Core.List.{List, [], _∷_, _++_}
 use Prim.Native.Nat.{ℕ, zero, suc, _/_, _%_}
 use lib.Dec.{leb, ltb, eqb}
 use lib.ListN.{length, getD, take}
-use Rattle.refusal.specs.Chain.{Row, first, answer, Told, done, refused, outside}
+use Rattle.refusal.specs.Chain.{Test, first, outcome, Told, done, refused, outside}
 use Rattle.refusal.specs.Limits.{anyOutside, sizesOutside, overBlock}
 use Rattle.field.specs.declared.Modulus.{Modulus}
 use Rattle.field.specs.declared.Modulus.the-variants.{Q13}
@@ -92,10 +92,10 @@ hostsTest job = outside 1 64 (job .hosts) || leb (prime job) (job .hosts)
 unfoldable pub neededTest : Job → Bool
 neededTest job = ltb (job .hosts) (neededOf job)
 
-unfoldable pub rangeTests : Job → List Row
+unfoldable pub rangeTests : Job → List Test
 rangeTests job = (sizeTest job, 2) ∷ (cutTest job, 3) ∷ (groupTest job, 4) ∷ []
 
-unfoldable pub fitTests : Job → List Row
+unfoldable pub fitTests : Job → List Test
 fitTests job = (divisionTest job, 5) ∷ (blockTest job, 6) ∷ (hostsTest job, 7) ∷ (neededTest job, 8) ∷ []
 
 -- x stands in xs
@@ -104,21 +104,21 @@ member x [] = false
 member x (y ∷ ys) = eqb x y || member x ys
 
 -- 10 and 11 of the point at i: it is 0 or not below q; it equals an earlier one
-unfoldable pub pointRows : ℕ → List ℕ → ℕ → List Row
-pointRows q points i =
+unfoldable pub pointTestsAt : ℕ → List ℕ → ℕ → List Test
+pointTestsAt q points i =
     (eqb (getD points i 0) 0 || leb q (getD points i 0), 10)
     ∷ (member (getD points i 0) (take i points), 11)
     ∷ []
 
 -- point by point
-unfoldable pub pointsRows : ℕ → List ℕ → ℕ → List Row
-pointsRows q points zero = []
-pointsRows q points (suc n) = pointsRows q points n ++ pointRows q points n
+unfoldable pub allPointTests : ℕ → List ℕ → ℕ → List Test
+allPointTests q points zero = []
+allPointTests q points (suc n) = allPointTests q points n ++ pointTestsAt q points n
 
-unfoldable pub pointTests : ℕ → ℕ → List ℕ → List Row
-pointTests q hosts points = (not (eqb (length points) hosts), 9) ∷ pointsRows q points (length points)
+unfoldable pub pointTests : ℕ → ℕ → List ℕ → List Test
+pointTests q hosts points = (not (eqb (length points) hosts), 9) ∷ allPointTests q points (length points)
 
-unfoldable pub planTests : Job → List ℕ → List Row
+unfoldable pub planTests : Job → List ℕ → List Test
 planTests job points = (noModulus (job .modulus), 1) ∷ (rangeTests job ++ (fitTests job ++ pointTests (prime job) (job .hosts) points))
 
 unfoldable pub planOf : Job → Plan
@@ -133,7 +133,7 @@ planOf job = record {
 }
 
 unfoldable pub planned : Job → List ℕ → Planned
-planned job points = answer (first (planTests job points)) (Accepted (planOf job)) Refused
+planned job points = outcome (first (planTests job points)) (Accepted (planOf job)) Refused
 
 unfoldable pub planValues : Job → List ℕ
 planValues job = number (layoutOf job) ∷ neededOf job ∷ blockRows job ∷ blockInner job ∷ blockColumns job ∷ []

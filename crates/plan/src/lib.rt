@@ -23,7 +23,6 @@ use field::Named;
 use layout::Layout;
 use layout::Parameters;
 use refusal::any_outside;
-use refusal::either;
 use refusal::outside;
 use refusal::over_block;
 use refusal::sizes_outside;
@@ -71,10 +70,7 @@ const MOST_GROUP: u32 = 16;
 fn group_test(job: Job) -> bool
     ensures { λ r. ⌜ r ≡ groupTest job ⌝ }
 {
-    either(
-        outside(1, MOST_GROUP, job.xa),
-        outside(1, MOST_GROUP, job.xb),
-    )
+    outside(1, MOST_GROUP, job.xa) | outside(1, MOST_GROUP, job.xb)
 }
 
 // Tests 2 to 4: each number by itself.
@@ -98,10 +94,7 @@ fn division_test(job: Job) -> bool
     requires { ⌜ first (rangeTests job) ≡ 0 ⌝ }
     ensures { λ r. ⌜ r ≡ divisionTest job ⌝ }
 {
-    either(
-        either(job.t % job.m != 0, job.s % job.p != 0),
-        job.r % job.n != 0,
-    )
+    (job.t % job.m != 0) | (job.s % job.p != 0) | (job.r % job.n != 0)
 }
 
 // A block is too large.
@@ -117,7 +110,7 @@ fn hosts_test(job: Job, q: u32) -> bool
     requires { ⌜ q ≡ prime job ⌝ }
     ensures { λ r. ⌜ r ≡ hostsTest job ⌝ }
 {
-    either(outside(1, refusal::MOST_HOSTS, job.hosts), q <= job.hosts)
+    outside(1, refusal::MOST_HOSTS, job.hosts) | (q <= job.hosts)
 }
 
 // More answers are needed than there are hosts.
@@ -158,7 +151,7 @@ fn stands_before(points: &[u32], n: usize, x: u32) -> bool
     let mut found = false;
     let mut i = 0;
     while i < n {
-        found = either(found, x == points[i]);
+        found = found | (x == points[i]);
         i += 1;
     }
     found
@@ -174,7 +167,7 @@ fn point_refusal(q: u32, hosts: u32, points: &[u32]) -> u32
     let mut i = 0;
     while i < points.len() {
         let x = points[i];
-        if either(x == 0, q <= x) {
+        if (x == 0) | (q <= x) {
             return refusal::POINT;
         }
         if stands_before(points, i, x) {

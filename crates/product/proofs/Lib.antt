@@ -1,4 +1,4 @@
 -- Laws of the product and of its answers.
 pub mod Examples
 pub mod Rows
-pub mod Answers
+pub mod Outcomes

@@ -12,7 +12,7 @@ use lib.Dec.{eqb}
 use lib.ListN.{length}
 use Rattle.algebra.specs.Lists.{grid, entry, allBelow}
 use Rattle.algebra.specs.Sums.{sum}
-use Rattle.refusal.specs.Chain.{Row, first, answer}
+use Rattle.refusal.specs.Chain.{Test, first, outcome}
 use Rattle.refusal.specs.Limits.{sizesOutside, overBlock}
 use Rattle.field.specs.Modulus.{modulus, noModulus}
 
@@ -28,7 +28,7 @@ lengthTest rows inner columns a b out =
     not (eqb a (rows * inner)) || not (eqb b (inner * columns)) || not (eqb out (rows * columns))
 
 -- n is the modulus number, and room how many elements the output has room for
-unfoldable pub productTests : ℕ → ℕ → ℕ → ℕ → List ℕ → List ℕ → ℕ → List Row
+unfoldable pub productTests : ℕ → ℕ → ℕ → ℕ → List ℕ → List ℕ → ℕ → List Test
 productTests n rows inner columns a b room =
     (noModulus n, 1)
     ∷ (sizesOutside rows inner columns, 2)
@@ -39,4 +39,4 @@ productTests n rows inner columns a b room =
 
 unfoldable pub productAfter : ℕ → ℕ → ℕ → ℕ → List ℕ → List ℕ → List ℕ → List ℕ
 productAfter n rows inner columns a b out =
-    answer (first (productTests n rows inner columns a b (length out))) (productOf (modulus n) rows inner columns a b) (λ r. out)
+    outcome (first (productTests n rows inner columns a b (length out))) (productOf (modulus n) rows inner columns a b) (λ r. out)

@@ -11,18 +11,18 @@ use native.Mathlib.Nat.{not-suc-le-zero, le-of-suc-le-suc, zero-lt-suc, suc-ne-z
 use lib.Dec.{T, eqb}
 use lib.ListN.{length}
 use Rattle.algebra.proofs.Tests.{and-right}
-use Rattle.refusal.specs.Chain.{Row, first, answer, Told, done, refused}
-use Rattle.refusal.proofs.Chains.{numbered, numbered-append, answer-done, answer-refused, told-number}
+use Rattle.refusal.specs.Chain.{Test, first, outcome, Told, done, refused}
+use Rattle.refusal.proofs.Chains.{numbered, numbered-append, outcome-done, outcome-refused, told-number}
 use Rattle.plan.specs.declared.Job.{Job}
 use Rattle.plan.specs.Planning.{planTests}
-use Rattle.plan.proofs.Answers.{plan-told}
+use Rattle.plan.proofs.Outcomes.{plan-told}
 use Rattle.plan.proofs.Then.{plan-numbered}
 use Rattle.share.specs.Sharing.{ownTests, shareTests, shareAfter}
 use Rattle.product.specs.Product.{productTests, productAfter}
 use Rattle.mukerihe.specs.Host.{hostTests, hostAfter}
 use Rattle.message_header.specs.Header.{headerTests, fieldTests}
 use Rattle.message.specs.Format.{writeTests, messageTests, readTests, written, readInto}
-use Rattle.message.proofs.Answers.{read-told}
+use Rattle.message.proofs.Outcomes.{read-told}
 use Rattle.arrival.specs.declared.Arrived.the-variants.{Taken}
 use Rattle.arrival.specs.declared.Arrived.the-variants.{Refused as Arrived·Refused}
 use Rattle.arrival_heard.specs.Heard.{withPlace}
@@ -31,10 +31,10 @@ use Rattle.arrival.specs.Arriving.{ownTests as Arriving·ownTests, numberOf as 
 use Rattle.decode.specs.Decoding.{decodeTests, tableAfter}
 use Rattle.field.proofs.Moduli.{told-named}
 use Rattle.field_signed.specs.Signed.{signedTests, elementTests}
-use Rattle.field_signed.proofs.Answers.{signed-told, element-told}
+use Rattle.field_signed.proofs.Outcomes.{signed-told, element-told}
 use Rattle.promise.specs.Demand1.{row, Judged, Leaves, Tells, Demand1}
 
-pub judged : (rows : List Row) → T (numbered rows) → Judged rows (first rows)
+pub judged : (rows : List Test) → T (numbered rows) → Judged rows (first rows)
 unfolding first numbered
 judged [] t = record { carried-out = ((λ e i l. absurd (not-suc-le-zero l)), (λ h. refl)); refused = λ ne. absurd (ne refl) }
 judged ((true, zero) ∷ rows) t = absurd t
@@ -59,42 +59,42 @@ judged ((false, n) ∷ rows) t = later (judged rows (and-right (not (eqb n 0)) (
         each-before k h (suc j) l = h j (le-of-suc-le-suc l)
 
 -- what an answer by the number leaves, where the call tells that number
-leaves : {told : ℕ} (n : ℕ) (done was : List ℕ) → told ≡ n → Leaves told (answer n done (λ k. was)) done was
+leaves : {told : ℕ} (n : ℕ) (done was : List ℕ) → told ≡ n → Leaves told (outcome n done (λ k. was)) done was
 leaves n done was e = record {
-  carried-out = λ z. answer-done done (λ k. was) n (sym e ∙ z);
-  refused = λ ne. answer-refused done (λ k. was) n (λ z. ne (e ∙ z));
+  carried-out = λ z. outcome-done done (λ k. was) n (sym e ∙ z);
+  refused = λ ne. outcome-refused done (λ k. was) n (λ z. ne (e ∙ z));
 }
 
-pub tells : {A : Type 0} (rows : List Row) (values : List A) {t : Told A} → T (numbered rows) → t ≡ answer (first rows) (done values) refused → Tells rows t values
+pub tells : {A : Type 0} (rows : List Test) (values : List A) {t : Told A} → T (numbered rows) → t ≡ outcome (first rows) (done values) refused → Tells rows t values
 tells rows values {t} ok e =
     let n = first rows in
     let number : t .number ≡ n = ap (λ a. a .number) e ∙ told-number values n in
     record {
       judged = subst (Judged rows) (sym number) (judged rows ok);
-      carried-out = λ z. ap (λ a. a .values) (e ∙ answer-done (done values) refused n (sym number ∙ z));
-      refused = λ ne. ap (λ a. a .values) (e ∙ answer-refused (done values) refused n (λ z. ne (number ∙ z)));
+      carried-out = λ z. ap (λ a. a .values) (e ∙ outcome-done (done values) refused n (sym number ∙ z));
+      refused = λ ne. ap (λ a. a .values) (e ∙ outcome-refused (done values) refused n (λ z. ne (number ∙ z)));
     }
 
 -- the number that an arrival answers with
 module _ (job : Job) (points : List ℕ) (heard : ℕ) (store message : List ℕ) where
   arrived-number : Arriving·numberOf (arrived job points heard store message) ≡ first (arrivalTests job points heard (length store) message)
-  unfolding arrived answer
+  unfolding arrived outcome
   arrived-number = go (first (arrivalTests job points heard (length store) message))
     where
-      go : (n : ℕ) → Arriving·numberOf (answer n (Taken (withPlace heard (place message))) Arrived·Refused) ≡ n
+      go : (n : ℕ) → Arriving·numberOf (outcome n (Taken (withPlace heard (place message))) Arrived·Refused) ≡ n
       go zero = refl
       go (suc n) = refl
 
   heard-done : Arriving·numberOf (arrived job points heard store message) ≡ 0 → heardAfter heard (arrived job points heard store message) ≡ withPlace heard (place message)
   unfolding arrived
-  heard-done e = ap (heardAfter heard) (answer-done _ Arrived·Refused _ (sym arrived-number ∙ e))
+  heard-done e = ap (heardAfter heard) (outcome-done _ Arrived·Refused _ (sym arrived-number ∙ e))
 
   heard-kept : (Arriving·numberOf (arrived job points heard store message) ≡ 0 → ⊥) → heardAfter heard (arrived job points heard store message) ≡ heard
   unfolding arrived
-  heard-kept ne = ap (heardAfter heard) (answer-refused _ Arrived·Refused _ (λ z. ne (arrived-number ∙ z)))
+  heard-kept ne = ap (heardAfter heard) (outcome-refused _ Arrived·Refused _ (λ z. ne (arrived-number ∙ z)))
 
 -- the plan's tests, and then a call's own
-after-plan : (job : Job) (points : List ℕ) (rows : List Row) → T (numbered rows) → Judged (planTests job points ++ rows) (first (planTests job points ++ rows))
+after-plan : (job : Job) (points : List ℕ) (rows : List Test) → T (numbered rows) → Judged (planTests job points ++ rows) (first (planTests job points ++ rows))
 after-plan job points rows t = judged _ (numbered-append (planTests job points) rows (plan-numbered job points) t)
 
 pub demand-1 : Demand1

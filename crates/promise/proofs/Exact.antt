@@ -67,14 +67,14 @@ block-entry job store h i v hi hv =
 
 unfoldable pub answerBlock : Task → ℕ → List ℕ → List ℕ → List ℕ
 answerBlock x h ma mb =
-    let job = x .numbers in
+    let job = x .job in
     productOf (prime job) (blockRows job) (blockInner job) (blockColumns job)
     (hostShare A job (x .points) (suc h) (x .a) ma)
     (hostShare B job (x .points) (suc h) (x .b) mb)
 
-module _ (x : Task) (f : Facts (x .numbers) (x .points)) where
+module _ (x : Task) (f : Facts (x .job) (x .points)) where
   abbrev job : Job
-  job = x .numbers
+  job = x .job
 
   abbrev e : Exponents
   e = exponents (layoutOf job) (parameters job)
@@ -137,10 +137,10 @@ module _ (x : Task) (f : Facts (x .numbers) (x .points)) where
         ∙ place-is e (planOf job) (x .a) ma (x .b) mb i v layout k j hk hj .same)
 
 pub exact : (x : Task) → Accepted x → (ma mb : List ℕ) (heard : ℕ) (store : List ℕ)
-    → neededOf (x .numbers) ≤ size (isHeard heard) (x .numbers .hosts)
-    → ((h : ℕ) → h < x .numbers .hosts → isHeard heard h ≡ true → blockAt (answerLength (x .numbers)) store h ≡ answerBlock x h ma mb)
-    → tableOf (x .numbers) (x .points) heard store
-    ≡ productOf (prime (x .numbers)) (x .numbers .t) (x .numbers .s) (x .numbers .r) (x .a) (x .b)
+    → neededOf (x .job) ≤ size (isHeard heard) (x .job .hosts)
+    → ((h : ℕ) → h < x .job .hosts → isHeard heard h ≡ true → blockAt (answerLength (x .job)) store h ≡ answerBlock x h ma mb)
+    → tableOf (x .job) (x .points) heard store
+    ≡ productOf (prime (x .job)) (x .job .t) (x .job .s) (x .job .r) (x .a) (x .b)
 exact x accepted ma mb heard store enough answers =
-    let f : Facts (x .numbers) (x .points) = facts (x .numbers) (x .points) (accepted .planned) in
-    table x f ma mb heard store (chosen-hosts (x .numbers) (x .points) f heard enough) answers ∙ cuts-whole x f
+    let f : Facts (x .job) (x .points) = facts (x .job) (x .points) (accepted .planned) in
+    table x f ma mb heard store (chosen-hosts (x .job) (x .points) f heard enough) answers ∙ cuts-whole x f

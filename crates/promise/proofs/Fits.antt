@@ -17,7 +17,7 @@ use borrow.Author.Tests.{eq-eqb, ltb-false, lt-leb, not-false}
 use Rattle.algebra.specs.Lists.{AllBelow}
 use Rattle.algebra.proofs.Lists.{all-below-test}
 use Rattle.algebra.proofs.Tests.{or-left, or-right, equal}
-use Rattle.refusal.specs.Chain.{Row, first, except}
+use Rattle.refusal.specs.Chain.{Test, first, except}
 use Rattle.refusal.proofs.Chains.{numbered, numbered-append, first-miss, first-append, first-append-clear, first-clear}
 use Rattle.refusal.proofs.Except.{except-append, except-numbered, except-clear}
 use Rattle.plan.specs.Planning.{prime, blockRows, blockColumns, planTests}
@@ -29,31 +29,31 @@ use Rattle.message.proofs.Fields.{readable}
 use Rattle.message_header.specs.Header.{headerTests, headerOf, elementCount, fieldTests}
 use Rattle.message.specs.Format.{elements, elementTest, messageTests}
 use Rattle.arrival_heard.specs.Heard.{isHeard, someAbove}
-use Rattle.arrival.proofs.Answers.{message-numbered}
+use Rattle.arrival.proofs.Outcomes.{message-numbered}
 use Rattle.arrival.specs.Arriving.{answerLength, storeLength, place, foreign, stateTests, ownTests, arrivalTests}
 use Rattle.promise.specs.Demand3.{Task, Accepted, State, fit}
 
 -- 22 and 12, 23 aside
-unfoldable pub others : Task → List ℕ → List Row
+unfoldable pub others : Task → List ℕ → List Test
 others x message =
-    (foreign (x .numbers) (headerOf message), 22) ∷ (ltb (x .numbers .hosts) (headerOf message .host), 12) ∷ []
+    (foreign (x .job) (headerOf message), 22) ∷ (ltb (x .job .hosts) (headerOf message .host), 12) ∷ []
 
-unfoldable pub core : Task → List ℕ → List Row
+unfoldable pub core : Task → List ℕ → List Test
 core x message = messageTests message ++ others x message
 
-module _ (x : Task) (ok : Accepted x) (s : State) (room : length (s .store) ≡ storeLength (x .numbers)) (message : List ℕ) where
+module _ (x : Task) (ok : Accepted x) (s : State) (room : length (s .store) ≡ storeLength (x .job)) (message : List ℕ) where
   -- the store's length is right
-  exact : not (eqb (length (s .store)) (storeLength (x .numbers))) ≡ false
-  exact = ap not (eq-eqb (length (s .store)) (storeLength (x .numbers)) room)
+  exact : not (eqb (length (s .store)) (storeLength (x .job))) ≡ false
+  exact = ap not (eq-eqb (length (s .store)) (storeLength (x .job)) room)
 
-  plan : List Row
-  plan = planTests (x .numbers) (x .points)
+  plan : List Test
+  plan = planTests (x .job) (x .points)
 
-  left : List Row
-  left = (not (eqb (length (s .store)) (storeLength (x .numbers))), 13) ∷ core x message
+  left : List Test
+  left = (not (eqb (length (s .store)) (storeLength (x .job))), 13) ∷ core x message
 
-  rest : List Row
-  rest = stateTests (x .numbers) (s .heard) (length (s .store)) ++ (messageTests message ++ ownTests (x .numbers) (s .heard) message)
+  rest : List Test
+  rest = stateTests (x .job) (s .heard) (length (s .store)) ++ (messageTests message ++ ownTests (x .job) (s .heard) message)
 
   left-is : except 21 (except 23 rest) ≡ left
   unfolding rest left core others stateTests ownTests messageTests headerTests fieldTests except
@@ -63,30 +63,30 @@ module _ (x : Task) (ok : Accepted x) (s : State) (room : length (s .store) ≡ 
   unfolding fit arrivalTests plan rest left
   fit-core =
       ap (λ (n : ℕ). eqb n 0)
-      (ap (λ (rows : List Row). first (except 21 rows)) (except-append 23 plan rest)
+      (ap (λ (rows : List Test). first (except 21 rows)) (except-append 23 plan rest)
       ∙ ap first (except-append 21 (except 23 plan) (except 23 rest))
       ∙ first-append (except 21 (except 23 plan)) (except 21 (except 23 rest))
-      (except-numbered 21 (except 23 plan) (except-numbered 23 plan (plan-numbered (x .numbers) (x .points))))
-      (except-clear 21 (except 23 plan) (except-numbered 23 plan (plan-numbered (x .numbers) (x .points)))
-      (except-clear 23 plan (plan-numbered (x .numbers) (x .points)) (ok .planned)))
+      (except-numbered 21 (except 23 plan) (except-numbered 23 plan (plan-numbered (x .job) (x .points))))
+      (except-clear 21 (except 23 plan) (except-numbered 23 plan (plan-numbered (x .job) (x .points)))
+      (except-clear 23 plan (plan-numbered (x .job) (x .points)) (ok .planned)))
       ∙ ap first left-is
       ∙ first-miss _ 13 (core x message) exact)
 
-  pub arrival-core : s .heard < 2 ^ x .numbers .hosts
-      → first (arrivalTests (x .numbers) (x .points) (s .heard) (length (s .store)) message)
+  pub arrival-core : s .heard < 2 ^ x .job .hosts
+      → first (arrivalTests (x .job) (x .points) (s .heard) (length (s .store)) message)
       ≡ first (core x message ++ ((isHeard (s .heard) (place message), 23) ∷ []))
   unfolding arrivalTests stateTests ownTests core others someAbove plan
   arrival-core below =
-      first-append plan _ (plan-numbered (x .numbers) (x .points)) (ok .planned)
-      ∙ first-miss _ 21 _ (lt-leb (2 ^ x .numbers .hosts) (s .heard) below)
+      first-append plan _ (plan-numbered (x .job) (x .points)) (ok .planned)
+      ∙ first-miss _ 21 _ (lt-leb (2 ^ x .job .hosts) (s .heard) below)
       ∙ first-miss _ 13 _ exact
       ∙ ap first (sym (append-assoc (messageTests message) (others x message) ((isHeard (s .heard) (place message), 23) ∷ [])))
 
 -- the message's tests passed, and 22 and 12
 pub record FitMessage (x : Task) (message : List ℕ) : Type 0 where
-  pub place : place message < x .numbers .hosts
-  pub fills : length (elements message) ≡ answerLength (x .numbers)
-  pub below : AllBelow (prime (x .numbers)) (elements message)
+  pub place : place message < x .job .hosts
+  pub fills : length (elements message) ≡ answerLength (x .job)
+  pub below : AllBelow (prime (x .job)) (elements message)
 
 module _ (x : Task) (ok : Accepted x) (message : List ℕ) where
   pub core-numbered : T (numbered (core x message))
@@ -96,7 +96,7 @@ module _ (x : Task) (ok : Accepted x) (message : List ℕ) where
   pub fit-message : first (core x message) ≡ 0 → FitMessage x message
   unfolding core others foreign place answerLength elements elementCount elementTest prime
   fit-message e =
-      let job = x .numbers in
+      let job = x .job in
       let h = headerOf message in
       let parts = first-append-clear (messageTests message) (others x message) (message-numbered message) e in
       let read = readable message (parts .0) in

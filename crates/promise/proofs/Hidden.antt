@@ -29,7 +29,7 @@ use Rattle.promise.specs.Demand3.{Task, SamePublic, Masks, Privacy, publ
 use Rattle.promise.proofs.Solvable.{Solvable, solvable-powers}
 use Rattle.promise.proofs.Matching.{MasksFor, Matched, matched}
 
-same-numbers : (x y : Task) → SamePublic x y → x .numbers ≡ y .numbers
+same-numbers : (x y : Task) → SamePublic x y → x .job ≡ y .job
 unfolding publicNumbers
 same-numbers x y same =
     let all = same .numbers in
@@ -58,7 +58,7 @@ unfolding side term layoutData
 masks-follow A job fits = let s = job-sound job fits in (s .firstA, s .masksA)
 masks-follow B job fits = let s = job-sound job fits in (s .firstB, s .masksB)
 
-largest-count : (m : Matrix) (x : Task) → largest m x ≡ side m (planOf (x .numbers)) .count
+largest-count : (m : Matrix) (x : Task) → largest m x ≡ side m (planOf (x .job)) .count
 unfolding largest side planOf parameters
 largest-count A x = refl
 largest-count B x = refl
@@ -120,15 +120,15 @@ module _ (m : Matrix) (job : Job) (points : List ℕ) (known : Facts job points)
 -- ---- two jobs
 
 -- a header depends on the numbers alone
-same-header : (m : Matrix) (x y : Task) (i : ℕ) → x .numbers ≡ y .numbers → shareHeader m x i ≡ shareHeader m y i
+same-header : (m : Matrix) (x y : Task) (i : ℕ) → x .job ≡ y .job → shareHeader m x i ≡ shareHeader m y i
 unfolding shareHeader headerFor
 same-header m x y i e = ap (λ (job : Job). shareHeader m (record { numbers = job; points = []; a = []; b = [] }) i) e
 
 -- masks for a matrix are masks of its side
-masks-told : (m : Matrix) (x : Task) (job : Job) (ms : List ℕ) → x .numbers ≡ job → Masks m x ms → MasksFor (prime job) (side m (planOf job)) ms
+masks-told : (m : Matrix) (x : Task) (job : Job) (ms : List ℕ) → x .job ≡ job → Masks m x ms → MasksFor (prime job) (side m (planOf job)) ms
 masks-told m x job ms e h = subst (λ (job : Job). MasksFor (prime job) (side m (planOf job)) ms) e (h .exact, h .below)
 
-masks-made : (m : Matrix) (x : Task) (job : Job) (ms : List ℕ) → job ≡ x .numbers → MasksFor (prime job) (side m (planOf job)) ms → Masks m x ms
+masks-made : (m : Matrix) (x : Task) (job : Job) (ms : List ℕ) → job ≡ x .job → MasksFor (prime job) (side m (planOf job)) ms → Masks m x ms
 masks-made m x job ms e h =
     let own = subst (λ (job : Job). MasksFor (prime job) (side m (planOf job)) ms) e h in
     record { exact = own .0; below = own .1 }
@@ -136,7 +136,7 @@ masks-made m x job ms e h =
 pub hidden : Privacy
 unfolding shareMessage
 hidden m x y ax ay same g small =
-    let job : Job = x .numbers in
+    let job : Job = x .job in
     let jobs = same-numbers x y same in
     let known = facts job (x .points) (ax .planned) in
     let few : size g (job .hosts) ≤ side m (planOf job) .count = omega (arith, largest-count m x) in

@@ -22,15 +22,15 @@ use Rattle.algebra.specs.Lists.{AllBelow, allBelow}
 use Rattle.algebra.proofs.Tests.{alike}
 use Rattle.algebra.proofs.Lists.{below-test}
 use Rattle.algebra.proofs.Grids.{length-grid, below-grid}
-use Rattle.refusal.specs.Chain.{Row, first, outside}
+use Rattle.refusal.specs.Chain.{Test, first, outside}
 use Rattle.field.specs.Modulus.{noModulus}
 use Rattle.refusal.specs.Limits.{anyOutside, sizesOutside, overBlock}
-use Rattle.refusal.proofs.Chains.{first-none, first-miss, answer-done, inside}
+use Rattle.refusal.proofs.Chains.{first-none, first-miss, outcome-done, inside}
 use Rattle.refusal.proofs.Limits.{Within}
 use Rattle.plan.specs.Planning.{prime, parameters, blockRows, blockInner, blockColumns, planOf}
 use Rattle.plan.proofs.Facts.{Fits, facts}
 use Rattle.plan.proofs.Sizes.{Sizes, sizes}
-use Rattle.plan.proofs.Answers.{plan-told}
+use Rattle.plan.proofs.Outcomes.{plan-told}
 use Rattle.plan.proofs.Then.{then-own}
 use Rattle.share_side.specs.declared.Matrix.{Matrix}
 use Rattle.share_side.specs.declared.Matrix.the-variants.{A, B}
@@ -46,7 +46,7 @@ use Rattle.message_header.proofs.Headers.{length-header}
 use Rattle.message_header.specs.Header.{header, elementCount, kindTest, hostTest, sizeTest, blockTest, fieldTests}
 use Rattle.message.specs.Format.{messageOf, payload, elementTest, writeTests, written}
 use Rattle.message.proofs.Fields.{writes}
-use Rattle.message.proofs.Answers.{written-done}
+use Rattle.message.proofs.Outcomes.{written-done}
 use Rattle.promise.specs.Demand3.{Task, Accepted, Masks, Made, matrix, kindOf, headerFor, shareHeader, answerHeader, shareMessage, trueProduct}
 
 -- a size of a block is one of a matrix
@@ -68,15 +68,15 @@ fields-pass h kind known host rows columns count =
     ∙ first-miss _ 6 _ (le-ltb 4096 (elementCount h) count)
     ∙ first-none
 
-module _ (x : Task) (ok : Accepted x) (i : ℕ) (low : i < x .numbers .hosts) where
-  fits : Fits (x .numbers)
-  fits = facts (x .numbers) (x .points) (ok .planned) .fits
+module _ (x : Task) (ok : Accepted x) (i : ℕ) (low : i < x .job .hosts) where
+  fits : Fits (x .job)
+  fits = facts (x .job) (x .points) (ok .planned) .fits
 
-  size : Sizes (x .numbers)
-  size = sizes (x .numbers) fits
+  size : Sizes (x .job)
+  size = sizes (x .job) fits
 
   q : ℕ
-  q = prime (x .numbers)
+  q = prime (x .job)
 
   positive : 0 < q
   unfolding q
@@ -86,27 +86,27 @@ module _ (x : Task) (ok : Accepted x) (i : ℕ) (low : i < x .numbers .hosts) wh
   host = record { low = omega arith; high = omega (arith, fits .hosts-high) }
 
   -- the sides' matrices are of exact length, with elements below q
-  exact : (m : Matrix) → length (matrix m x) ≡ matrixLength (side m (planOf (x .numbers)))
+  exact : (m : Matrix) → length (matrix m x) ≡ matrixLength (side m (planOf (x .job)))
   unfolding matrix matrixLength blockLength side planOf parameters
   exact A =
       let z = size in
-      ok .length-a ∙ ap₂ _*_ (z .t) (z .s) ∙ (let e : x .numbers .m * blockRows (x .numbers) * (x .numbers .p * blockInner (x .numbers)) ≡ x .numbers .m * x .numbers .p * (blockRows (x .numbers) * blockInner (x .numbers)) = omega arith in e)
+      ok .length-a ∙ ap₂ _*_ (z .t) (z .s) ∙ (let e : x .job .m * blockRows (x .job) * (x .job .p * blockInner (x .job)) ≡ x .job .m * x .job .p * (blockRows (x .job) * blockInner (x .job)) = omega arith in e)
   exact B =
       let z = size in
-      ok .length-b ∙ ap₂ _*_ (z .s) (z .r) ∙ (let e : x .numbers .p * blockInner (x .numbers) * (x .numbers .n * blockColumns (x .numbers)) ≡ x .numbers .p * x .numbers .n * (blockInner (x .numbers) * blockColumns (x .numbers)) = omega arith in e)
+      ok .length-b ∙ ap₂ _*_ (z .s) (z .r) ∙ (let e : x .job .p * blockInner (x .job) * (x .job .n * blockColumns (x .job)) ≡ x .job .p * x .job .n * (blockInner (x .job) * blockColumns (x .job)) = omega arith in e)
 
   below : (m : Matrix) → AllBelow q (matrix m x)
   unfolding matrix q
   below A = ok .below-a
   below B = ok .below-b
 
-  pub share-done : (m : Matrix) (ms out : List ℕ) → Masks m x ms → length out ≡ blockLength (side m (planOf (x .numbers)))
-      → first (shareTests m (x .numbers) (x .points) (suc i) (matrix m x) ms (length out)) ≡ 0
+  pub share-done : (m : Matrix) (ms out : List ℕ) → Masks m x ms → length out ≡ blockLength (side m (planOf (x .job)))
+      → first (shareTests m (x .job) (x .points) (suc i) (matrix m x) ms (length out)) ≡ 0
   unfolding shareTests ownTests Encoding·lengthTest q
   share-done m ms out masks room =
-      let s = side m (planOf (x .numbers)) in
-      then-own (x .numbers) (x .points) _ (ok .planned)
-      ∙ first-miss _ 12 _ (inside 1 (x .numbers .hosts) (suc i) (omega arith) (omega arith))
+      let s = side m (planOf (x .job)) in
+      then-own (x .job) (x .points) _ (ok .planned)
+      ∙ first-miss _ 12 _ (inside 1 (x .job .hosts) (suc i) (omega arith) (omega arith))
       ∙ first-miss _ 13 _
       (ap₂ _||_ (ap₂ _||_ (alike (length (matrix m x)) (matrixLength s) (exact m)) (alike (length ms) (maskLength s) (masks .exact)))
       (alike (length out) (blockLength s) room))
@@ -115,34 +115,34 @@ module _ (x : Task) (ok : Accepted x) (i : ℕ) (low : i < x .numbers .hosts) wh
       ∙ first-none
 
   unfoldable pub share : (m : Matrix) → List ℕ → List ℕ
-  share m ms = hostShare m (x .numbers) (x .points) (suc i) (matrix m x) ms
+  share m ms = hostShare m (x .job) (x .points) (suc i) (matrix m x) ms
 
-  pub share-length : (m : Matrix) (ms : List ℕ) → length (hostShare m (x .numbers) (x .points) (suc i) (matrix m x) ms) ≡ blockLength (side m (planOf (x .numbers)))
+  pub share-length : (m : Matrix) (ms : List ℕ) → length (hostShare m (x .job) (x .points) (suc i) (matrix m x) ms) ≡ blockLength (side m (planOf (x .job)))
   unfolding hostShare shareOf blockLength
   share-length m ms = length-grid _ _ _
 
-  pub share-below : (m : Matrix) (ms : List ℕ) → AllBelow (prime (x .numbers)) (hostShare m (x .numbers) (x .points) (suc i) (matrix m x) ms)
+  pub share-below : (m : Matrix) (ms : List ℕ) → AllBelow (prime (x .job)) (hostShare m (x .job) (x .points) (suc i) (matrix m x) ms)
   unfolding hostShare shareOf q
   share-below m ms = below-grid _ _ _ _ (λ k l. mod-lt _ positive)
 
   -- what sharing leaves
-  shared : (m : Matrix) (ms out : List ℕ) → Masks m x ms → length out ≡ blockLength (side m (planOf (x .numbers)))
-      → shareAfter m (x .numbers) (x .points) (suc i) (matrix m x) ms out ≡ share m ms
+  shared : (m : Matrix) (ms out : List ℕ) → Masks m x ms → length out ≡ blockLength (side m (planOf (x .job)))
+      → shareAfter m (x .job) (x .points) (suc i) (matrix m x) ms out ≡ share m ms
   unfolding shareAfter share
-  shared m ms out masks room = answer-done (share m ms) (λ r. out) _ (share-done m ms out masks room)
+  shared m ms out masks room = outcome-done (share m ms) (λ r. out) _ (share-done m ms out masks room)
 
   -- a block of a side is not empty, and not over 4096
-  side-rows : (m : Matrix) → Within 16384 (side m (planOf (x .numbers)) .rows)
+  side-rows : (m : Matrix) → Within 16384 (side m (planOf (x .job)) .rows)
   unfolding side planOf
   side-rows A = in-size (size .rows)
   side-rows B = in-size (size .inner)
 
-  side-columns : (m : Matrix) → Within 16384 (side m (planOf (x .numbers)) .columns)
+  side-columns : (m : Matrix) → Within 16384 (side m (planOf (x .job)) .columns)
   unfolding side planOf
   side-columns A = in-size (size .inner)
   side-columns B = in-size (size .columns)
 
-  side-block : (m : Matrix) → blockLength (side m (planOf (x .numbers))) ≤ 4096
+  side-block : (m : Matrix) → blockLength (side m (planOf (x .job))) ≤ 4096
   unfolding side planOf blockLength
   side-block A = fits .block-a
   side-block B = fits .block-b
@@ -153,7 +153,7 @@ module _ (x : Task) (ok : Accepted x) (i : ℕ) (low : i < x .numbers .hosts) wh
   kind B = record { low = omega arith; high = omega arith }
 
   pub share-written : (m : Matrix) (ms : List ℕ) (room : ℕ) → room ≡ 16 + 4 * elementCount (shareHeader m x (suc i))
-      → first (writeTests (shareHeader m x (suc i)) (hostShare m (x .numbers) (x .points) (suc i) (matrix m x) ms) room) ≡ 0
+      → first (writeTests (shareHeader m x (suc i)) (hostShare m (x .job) (x .points) (suc i) (matrix m x) ms) room) ≡ 0
   unfolding shareHeader headerFor elementCount blockLength elementTest prime
   share-written m ms room e =
       writes (shareHeader m x (suc i)) _ room (record {
@@ -164,7 +164,7 @@ module _ (x : Task) (ok : Accepted x) (i : ℕ) (low : i < x .numbers .hosts) wh
       })
 
   -- the numbers of the product are those of an accepted job
-  numbers-pass : (rows : List Row) → let job = x .numbers in
+  numbers-pass : (rows : List Test) → let job = x .job in
       first ((noModulus (job .modulus), 1)
       ∷ (sizesOutside (blockRows job) (blockInner job) (blockColumns job), 2)
       ∷ (overBlock (blockRows job) (blockInner job) (blockColumns job), 6)
@@ -179,18 +179,18 @@ module _ (x : Task) (ok : Accepted x) (i : ℕ) (low : i < x .numbers .hosts) wh
 
   module _ (ma mb : List ℕ) where
     unfoldable pub answer : List ℕ
-    answer = productOf (prime (x .numbers)) (blockRows (x .numbers)) (blockInner (x .numbers)) (blockColumns (x .numbers)) (share A ma) (share B mb)
+    answer = productOf (prime (x .job)) (blockRows (x .job)) (blockInner (x .job)) (blockColumns (x .job)) (share A ma) (share B mb)
 
-    answer-length : length answer ≡ blockRows (x .numbers) * blockColumns (x .numbers)
+    answer-length : length answer ≡ blockRows (x .job) * blockColumns (x .job)
     unfolding answer productOf
     answer-length = length-grid _ _ _
 
-    answer-below : AllBelow (prime (x .numbers)) answer
+    answer-below : AllBelow (prime (x .job)) answer
     unfolding answer productOf q
     answer-below = below-grid _ _ _ _ (λ k l. mod-lt _ positive)
 
-    product-done : (out : List ℕ) → length out ≡ blockRows (x .numbers) * blockColumns (x .numbers)
-        → first (productTests (x .numbers .modulus) (blockRows (x .numbers)) (blockInner (x .numbers)) (blockColumns (x .numbers)) (share A ma) (share B mb) (length out)) ≡ 0
+    product-done : (out : List ℕ) → length out ≡ blockRows (x .job) * blockColumns (x .job)
+        → first (productTests (x .job .modulus) (blockRows (x .job)) (blockInner (x .job)) (blockColumns (x .job)) (share A ma) (share B mb) (length out)) ≡ 0
     unfolding productTests lengthTest share blockLength side planOf prime
     product-done out room =
         numbers-pass _
@@ -198,10 +198,10 @@ module _ (x : Task) (ok : Accepted x) (i : ℕ) (low : i < x .numbers .hosts) wh
         ∙ first-miss _ 14 _ (ap₂ _||_ (ap not (below-test _ _ (share-below A ma))) (ap not (below-test _ _ (share-below B mb))))
         ∙ first-none
 
-    multiplied : (out : List ℕ) → length out ≡ blockRows (x .numbers) * blockColumns (x .numbers)
-        → productAfter (x .numbers .modulus) (blockRows (x .numbers)) (blockInner (x .numbers)) (blockColumns (x .numbers)) (share A ma) (share B mb) out ≡ answer
+    multiplied : (out : List ℕ) → length out ≡ blockRows (x .job) * blockColumns (x .job)
+        → productAfter (x .job .modulus) (blockRows (x .job)) (blockInner (x .job)) (blockColumns (x .job)) (share A ma) (share B mb) out ≡ answer
     unfolding productAfter answer prime
-    multiplied out room = answer-done answer (λ r. out) _ (product-done out room)
+    multiplied out room = outcome-done answer (λ r. out) _ (product-done out room)
 
     pub answer-written : (room : ℕ) → room ≡ 16 + 4 * elementCount (answerHeader x (suc i))
         → first (writeTests (answerHeader x (suc i)) answer room) ≡ 0
@@ -222,14 +222,14 @@ module _ (x : Task) (ok : Accepted x) (i : ℕ) (low : i < x .numbers .hosts) wh
     unfolding payload shareMessage messageOf bytes share
     payload-is m ms = drop-at (header (shareHeader m x (suc i))) _ 16 (length-header _)
 
-    elements-are : (m : Matrix) (ms : List ℕ) (n : ℕ) → n ≡ blockLength (side m (planOf (x .numbers))) → elementsOf n (bytes m ms) ≡ share m ms
+    elements-are : (m : Matrix) (ms : List ℕ) (n : ℕ) → n ≡ blockLength (side m (planOf (x .job))) → elementsOf n (bytes m ms) ≡ share m ms
     unfolding bytes share
     elements-are m ms n e =
         ap (λ (k : ℕ). elementsOf k (bytes m ms)) (e ∙ sym (share-length m ms))
         ∙ elements-of-bytes (share m ms) (λ k l. omega (arith, share-below m ms k l, fits .known .small))
 
     host-done : (out : List ℕ) → length out ≡ 4 * elementCount (answerHeader x (suc i))
-        → first (hostTests (x .numbers .modulus) (blockRows (x .numbers)) (blockInner (x .numbers)) (blockColumns (x .numbers)) (bytes A ma) (bytes B mb) (length out)) ≡ 0
+        → first (hostTests (x .job .modulus) (blockRows (x .job)) (blockInner (x .job)) (blockColumns (x .job)) (bytes A ma) (bytes B mb) (length out)) ≡ 0
     unfolding hostTests byteLengthTest bytes share blockLength side planOf prime answerHeader headerFor elementCount q
     host-done out room =
         let a = length-bytesOf (share A ma) ∙ ap (λ (n : ℕ). 4 * n) (share-length A ma) in
@@ -242,28 +242,28 @@ module _ (x : Task) (ok : Accepted x) (i : ℕ) (low : i < x .numbers .hosts) wh
         ∙ first-none
 
     host-made : (out : List ℕ) → length out ≡ 4 * elementCount (answerHeader x (suc i))
-        → hostAfter (x .numbers .modulus) (blockRows (x .numbers)) (blockInner (x .numbers)) (blockColumns (x .numbers)) (bytes A ma) (bytes B mb) out ≡ bytesOf answer
+        → hostAfter (x .job .modulus) (blockRows (x .job)) (blockInner (x .job)) (blockColumns (x .job)) (bytes A ma) (bytes B mb) out ≡ bytesOf answer
     unfolding hostAfter hostProduct answer blockLength side planOf prime q
     host-made out room =
-        answer-done _ (λ r. out) _ (host-done out room)
-        ∙ ap bytesOf (ap₂ (productOf q (blockRows (x .numbers)) (blockInner (x .numbers)) (blockColumns (x .numbers))) (elements-are A ma _ refl) (elements-are B mb _ refl))
+        outcome-done _ (λ r. out) _ (host-done out room)
+        ∙ ap bytesOf (ap₂ (productOf q (blockRows (x .job)) (blockInner (x .job)) (blockColumns (x .job))) (elements-are A ma _ refl) (elements-are B mb _ refl))
 
     pub made : Masks A x ma → Masks B x mb → Made x (suc i) ma mb
     unfolding shareMessage trueProduct answer share matrix payload messageOf
     made masks-a masks-b =
         record {
-          plan = plan-told (x .numbers) (x .points) ∙ answer-done _ _ _ (ok .planned);
+          plan = plan-told (x .job) (x .points) ∙ outcome-done _ _ _ (ok .planned);
           share = λ m ms out message masks room whole.
               let is = shared m ms out masks room in
               ap (λ (xs : List ℕ). written (shareHeader m x (suc i)) xs message) is
               ∙ written-done (shareHeader m x (suc i)) (share m ms) message (share-written m ms (length message) whole);
           product = λ out-a out-b out message room-a room-b room whole.
               ap (λ (xs : List ℕ). written (answerHeader x (suc i)) xs message)
-              (ap₂ (λ (xs ys : List ℕ). productAfter (x .numbers .modulus) (blockRows (x .numbers)) (blockInner (x .numbers)) (blockColumns (x .numbers)) xs ys out) (shared A ma out-a masks-a room-a) (shared B mb out-b masks-b room-b)
+              (ap₂ (λ (xs ys : List ℕ). productAfter (x .job .modulus) (blockRows (x .job)) (blockInner (x .job)) (blockColumns (x .job)) xs ys out) (shared A ma out-a masks-a room-a) (shared B mb out-b masks-b room-b)
               ∙ multiplied out room)
               ∙ written-done (answerHeader x (suc i)) answer message (answer-written (length message) whole);
           host = λ out room.
-              ap₂ (λ (xs ys : List ℕ). hostAfter (x .numbers .modulus) (blockRows (x .numbers)) (blockInner (x .numbers)) (blockColumns (x .numbers)) xs ys out) (payload-is A ma) (payload-is B mb)
+              ap₂ (λ (xs ys : List ℕ). hostAfter (x .job .modulus) (blockRows (x .job)) (blockInner (x .job)) (blockColumns (x .job)) xs ys out) (payload-is A ma) (payload-is B mb)
               ∙ host-made out room
               ∙ sym (drop-at (header (answerHeader x (suc i))) (bytesOf answer) 16 (length-header _));
         }

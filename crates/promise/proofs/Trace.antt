@@ -18,7 +18,7 @@ use lib.ListN.{length, getD}
 use borrow.Author.Tests.{eqb-true, eqb-false, eq-eqb}
 use Rattle.algebra.specs.Lists.{AllBelow}
 use Rattle.algebra.proofs.Tests.{by-test, or-true, or-false, or-assoc}
-use Rattle.refusal.specs.Chain.{first, answer}
+use Rattle.refusal.specs.Chain.{first, outcome}
 use Rattle.refusal.proofs.Chains.{first-none, first-hit, first-miss, first-append, first-append-hit}
 use Rattle.plan.specs.Planning.{prime}
 use Rattle.message.specs.Format.{elements}
@@ -39,33 +39,33 @@ second-false true e = e
 second-false false e = refl
 
 pub record Good (x : Task) (s : State) : Type 0 where
-  pub none-above : s .heard < 2 ^ x .numbers .hosts
-  pub room : length (s .store) ≡ storeLength (x .numbers)
+  pub none-above : s .heard < 2 ^ x .job .hosts
+  pub room : length (s .store) ≡ storeLength (x .job)
 
 -- the call c takes the state s to the state t
 pub record Step (x : Task) (s : State) (c : Call) (t : State) : Type 0 where
   pub good : Good x t
   pub heard : (i : ℕ) → isHeard (t .heard) i ≡ (isHeard (s .heard) i || fitFor x s i c)
   -- the block of a host heard stays, and that of a new one is its message's
-  pub kept : (i : ℕ) → isHeard (s .heard) i ≡ true → blockAt (answerLength (x .numbers)) (t .store) i ≡ blockAt (answerLength (x .numbers)) (s .store) i
-  pub new : (i : ℕ) → isHeard (s .heard) i ≡ false → fitFor x s i c ≡ true → blockAt (answerLength (x .numbers)) (t .store) i ≡ elements (bytes x c)
-  pub below : (i : ℕ) → fitFor x s i c ≡ true → AllBelow (prime (x .numbers)) (elements (bytes x c))
+  pub kept : (i : ℕ) → isHeard (s .heard) i ≡ true → blockAt (answerLength (x .job)) (t .store) i ≡ blockAt (answerLength (x .job)) (s .store) i
+  pub new : (i : ℕ) → isHeard (s .heard) i ≡ false → fitFor x s i c ≡ true → blockAt (answerLength (x .job)) (t .store) i ≡ elements (bytes x c)
+  pub below : (i : ℕ) → fitFor x s i c ≡ true → AllBelow (prime (x .job)) (elements (bytes x c))
 
 module _ (x : Task) (s : State) (message : List ℕ) where
   tests : ℕ
-  tests = first (arrivalTests (x .numbers) (x .points) (s .heard) (length (s .store)) message)
+  tests = first (arrivalTests (x .job) (x .points) (s .heard) (length (s .store)) message)
 
   taken : State
   taken = record {
     heard = withPlace (s .heard) (place message);
-    store = withBlock (answerLength (x .numbers)) (s .store) (place message) (elements message);
+    store = withBlock (answerLength (x .job)) (s .store) (place message) (elements message);
   }
 
   -- what the number n makes of an arrival
   told : ℕ → State
   told n = record {
-    heard = heardAfter (s .heard) (answer n (Taken (withPlace (s .heard) (place message))) Refused);
-    store = answer n (withBlock (answerLength (x .numbers)) (s .store) (place message) (elements message)) (λ k. s .store);
+    heard = heardAfter (s .heard) (outcome n (Taken (withPlace (s .heard) (place message))) Refused);
+    store = outcome n (withBlock (answerLength (x .job)) (s .store) (place message) (elements message)) (λ k. s .store);
   }
 
   after-told : after x s (arrival message) ≡ told tests
@@ -73,11 +73,11 @@ module _ (x : Task) (s : State) (message : List ℕ) where
   after-told = refl
 
   after-taken : tests ≡ 0 → after x s (arrival message) ≡ taken
-  unfolding told taken answer
+  unfolding told taken outcome
   after-taken e = after-told ∙ ap told e
 
   after-refused : (tests ≡ 0 → ⊥) → after x s (arrival message) ≡ s
-  unfolding told answer
+  unfolding told outcome
   after-refused ne = after-told ∙ go tests ne
     where
       go : (n : ℕ) → (n ≡ 0 → ⊥) → told n ≡ s
@@ -87,7 +87,7 @@ module _ (x : Task) (s : State) (message : List ℕ) where
 module _ (x : Task) (ok : Accepted x) (s : State) (good : Good x s) where
   -- nothing changes, and no new host has a fit message
   still : (c : Call) → ((i : ℕ) → fitFor x s i c ≡ true → isHeard (s .heard) i ≡ true)
-      → ((i : ℕ) → fitFor x s i c ≡ true → AllBelow (prime (x .numbers)) (elements (bytes x c))) → Step x s c s
+      → ((i : ℕ) → fitFor x s i c ≡ true → AllBelow (prime (x .job)) (elements (bytes x c))) → Step x s c s
   still c old below = record {
     good = good;
     heard = λ i. same (isHeard (s .heard) i) (fitFor x s i c) (old i);
@@ -114,7 +114,7 @@ module _ (x : Task) (ok : Accepted x) (s : State) (good : Good x s) where
     passed : fit x s message ≡ true → first (core x message) ≡ 0
     passed e = eqb-true (first (core x message)) 0 (sym (fit-core x ok s (good .room) message) ∙ e)
 
-    below-of : (i : ℕ) → fitFor x s i (arrival message) ≡ true → AllBelow (prime (x .numbers)) (elements (bytes x (arrival message)))
+    below-of : (i : ℕ) → fitFor x s i (arrival message) ≡ true → AllBelow (prime (x .job)) (elements (bytes x (arrival message)))
     unfolding bytes
     below-of i f = fit-message x ok message (passed (named i f .0)) .below
 
@@ -152,11 +152,11 @@ module _ (x : Task) (ok : Accepted x) (s : State) (good : Good x s) where
         own : FitMessage x message
         own = fit-message x ok message (passed f)
 
-        block : place message * answerLength (x .numbers) + answerLength (x .numbers) ≤ length (s .store)
+        block : place message * answerLength (x .job) + answerLength (x .job) ≤ length (s .store)
         unfolding storeLength
         block =
-            let rows : (place message + 1) * answerLength (x .numbers) ≤ x .numbers .hosts * answerLength (x .numbers)
-            = mul-le-mul-right (answerLength (x .numbers)) (let l : place message + 1 ≤ x .numbers .hosts = omega (arith, own .place) in l) in
+            let rows : (place message + 1) * answerLength (x .job) ≤ x .job .hosts * answerLength (x .job)
+            = mul-le-mul-right (answerLength (x .job)) (let l : place message + 1 ≤ x .job .hosts = omega (arith, own .place) in l) in
             omega (arith, good .room)
 
         heard-by : (i : ℕ) → isHeard (withPlace (s .heard) (place message)) i ≡ (isHeard (s .heard) i || fitFor x s i (arrival message))
@@ -177,16 +177,16 @@ module _ (x : Task) (ok : Accepted x) (s : State) (good : Good x s) where
         unfolding taken bytes
         take = record {
           good = record {
-            none-above = with-below (s .heard) (place message) clear (x .numbers .hosts) (good .none-above) (own .place);
-            room = length-with (answerLength (x .numbers)) (s .store) (place message) (elements message) block (own .fills) ∙ good .room;
+            none-above = with-below (s .heard) (place message) clear (x .job .hosts) (good .none-above) (own .place);
+            room = length-with (answerLength (x .job)) (s .store) (place message) (elements message) block (own .fills) ∙ good .room;
           };
           heard = heard-by;
           kept = λ i h.
-              block-other (answerLength (x .numbers)) (s .store) (place message) (elements message) block (own .fills) i
+              block-other (answerLength (x .job)) (s .store) (place message) (elements message) block (own .fills) i
               (λ e. true≢false (sym h ∙ ap (isHeard (s .heard)) e ∙ clear));
           new = λ i c g.
-              ap (blockAt (answerLength (x .numbers)) (withBlock (answerLength (x .numbers)) (s .store) (place message) (elements message))) (sym (named i g .1))
-              ∙ block-own (answerLength (x .numbers)) (s .store) (place message) (elements message) block (own .fills);
+              ap (blockAt (answerLength (x .job)) (withBlock (answerLength (x .job)) (s .store) (place message) (elements message))) (sym (named i g .1))
+              ∙ block-own (answerLength (x .job)) (s .store) (place message) (elements message) block (own .fills);
           below = below-of;
         }
 
@@ -210,10 +210,10 @@ pub record Ran (x : Task) (s : State) (cs : List Call) : Type 0 where
   pub good : Good x (run x s cs)
   pub heard : (i : ℕ) → isHeard (run x s cs .heard) i ≡ (isHeard (s .heard) i || hasFit x s cs i)
   pub kept : (i : ℕ) → isHeard (s .heard) i ≡ true
-      → blockAt (answerLength (x .numbers)) (run x s cs .store) i ≡ blockAt (answerLength (x .numbers)) (s .store) i
+      → blockAt (answerLength (x .job)) (run x s cs .store) i ≡ blockAt (answerLength (x .job)) (s .store) i
   pub new : (i : ℕ) → isHeard (s .heard) i ≡ false → hasFit x s cs i ≡ true
-      → blockAt (answerLength (x .numbers)) (run x s cs .store) i ≡ elements (firstFit x s cs i)
-  pub below : (i : ℕ) → hasFit x s cs i ≡ true → AllBelow (prime (x .numbers)) (elements (firstFit x s cs i))
+      → blockAt (answerLength (x .job)) (run x s cs .store) i ≡ elements (firstFit x s cs i)
+  pub below : (i : ℕ) → hasFit x s cs i ≡ true → AllBelow (prime (x .job)) (elements (firstFit x s cs i))
 
 module _ (x : Task) (ok : Accepted x) where
   pub ran : (cs : List Call) (s : State) → Good x s → Ran x s cs
@@ -248,9 +248,9 @@ module _ (x : Task) (ok : Accepted x) where
         below = λ i e.
             ⊎-elim
             (λ (f : fitFor x s i c ≡ true).
-            subst (λ (m : List ℕ). AllBelow (prime (x .numbers)) (elements m)) (sym (ap (λ (t : Bool). cond t (bytes x c) (firstFit x (after x s c) cs i)) f)) (step .below i f))
+            subst (λ (m : List ℕ). AllBelow (prime (x .job)) (elements m)) (sym (ap (λ (t : Bool). cond t (bytes x c) (firstFit x (after x s c) cs i)) f)) (step .below i f))
             (λ (f : fitFor x s i c ≡ false).
-            subst (λ (m : List ℕ). AllBelow (prime (x .numbers)) (elements m)) (sym (ap (λ (t : Bool). cond t (bytes x c) (firstFit x (after x s c) cs i)) f))
+            subst (λ (m : List ℕ). AllBelow (prime (x .job)) (elements m)) (sym (ap (λ (t : Bool). cond t (bytes x c) (firstFit x (after x s c) cs i)) f))
             (rest .below i (ap (λ (t : Bool). t || hasFit x (after x s c) cs i) (sym f) ∙ e)))
             (by-test (fitFor x s i c));
       }

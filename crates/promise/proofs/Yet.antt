@@ -21,8 +21,8 @@ use Rattle.algebra.specs.Sets.{size}
 use Rattle.algebra.proofs.Sets.{members-cong}
 use Rattle.algebra.proofs.Lists.{below-test}
 use Rattle.algebra.proofs.Tests.{by-test, alike}
-use Rattle.refusal.specs.Chain.{Row, first}
-use Rattle.refusal.proofs.Chains.{first-none, first-miss, first-clear, first-append, answer-done}
+use Rattle.refusal.specs.Chain.{Test, first}
+use Rattle.refusal.proofs.Chains.{first-none, first-miss, first-clear, first-append, outcome-done}
 use Rattle.plan.specs.Planning.{prime, blockRows, blockColumns, neededOf}
 use Rattle.plan.proofs.Then.{then-own}
 use Rattle.message_header.specs.declared.Header.{Header}
@@ -32,7 +32,7 @@ use Rattle.message.specs.RoundTrips.{ReadsBack}
 use Rattle.message.proofs.RoundTrips.{reads-back}
 use Rattle.arrival_heard.specs.Heard.{isHeard, someAbove}
 use Rattle.arrival_heard.proofs.Bits.{none-heard, ones-size}
-use Rattle.arrival.proofs.Answers.{message-numbered}
+use Rattle.arrival.proofs.Outcomes.{message-numbered}
 use Rattle.arrival.specs.Arriving.{answerLength, storeLength, blockAt, place, foreign}
 use Rattle.product.specs.Product.{productOf}
 use Rattle.decode.specs.Decoding.{tableOf, tableLength, heardBelow, decodeTests, tableAfter}
@@ -42,7 +42,7 @@ use Rattle.promise.proofs.Made.{answer, share, answer-written}
 use Rattle.promise.proofs.Trace.{Good, Ran, ran, replies-at}
 use Rattle.promise.proofs.Exact.{exact, answerBlock}
 
-module _ (x : Task) (ok : Accepted x) (ma mb : List ℕ) (i : ℕ) (low : i < x .numbers .hosts) where
+module _ (x : Task) (ok : Accepted x) (ma mb : List ℕ) (i : ℕ) (low : i < x .job .hosts) where
   message : List ℕ
   message = trueProduct x (suc i) ma mb
 
@@ -64,7 +64,7 @@ module _ (x : Task) (ok : Accepted x) (ma mb : List ℕ) (i : ℕ) (low : i < x 
   core-clear : first (core x message) ≡ 0
   unfolding core others foreign answerHeader headerFor
   core-clear =
-      let job = x .numbers in
+      let job = x .job in
       first-append (messageTests message) (others x message) (message-numbered message) (ap (λ (m : List ℕ). first (messageTests m)) is-message ∙ read .accepted)
       ∙ first-miss _ 22 _
       (ap (foreign job) header-is
@@ -74,7 +74,7 @@ module _ (x : Task) (ok : Accepted x) (ma mb : List ℕ) (i : ℕ) (low : i < x 
       ∙ first-miss _ 12 _ (ap (λ (h : Header). ltb (job .hosts) (h .host)) header-is ∙ le-ltb (job .hosts) (suc i) (omega arith))
       ∙ first-none
 
-  pub true-fit : (s : State) → length (s .store) ≡ storeLength (x .numbers) → fitFor x s i (arrival (trueProduct x (suc i) ma mb)) ≡ true
+  pub true-fit : (s : State) → length (s .store) ≡ storeLength (x .job) → fitFor x s i (arrival (trueProduct x (suc i) ma mb)) ≡ true
   unfolding fitFor place message answerHeader headerFor
   true-fit s room =
       ap₂ _&&_ (fit-core x ok s room message ∙ eq-eqb (first (core x message)) 0 core-clear)
@@ -92,35 +92,35 @@ heard-below q size heard store (suc n) h =
     (by-test (isHeard heard n)))
 
 -- a last test that does not hold
-first-last : (row : Row) (test : Bool) (n : ℕ) → test ≡ false → first (row ∷ (test, n) ∷ []) ≡ first (row ∷ [])
+first-last : (row : Test) (test : Bool) (n : ℕ) → test ≡ false → first (row ∷ (test, n) ∷ []) ≡ first (row ∷ [])
 unfolding first
 first-last row test n e = ap (λ (t : Bool). cond (row .0) (row .1) (cond t n 0)) e
 
 module _ (x : Task) (ok : Accepted x) (s : State) (good : Good x s)
-    (below : (i : ℕ) → isHeard (s .heard) i ≡ true → AllBelow (prime (x .numbers)) (blockAt (answerLength (x .numbers)) (s .store) i))
-    (table : List ℕ) (exact : length table ≡ tableLength (x .numbers)) where
-  pub decode-number : first (decodeTests (x .numbers) (x .points) (s .heard) (s .store) (length table)) ≡ first ((ltb (ones (s .heard)) (neededOf (x .numbers)), 24) ∷ [])
+    (below : (i : ℕ) → isHeard (s .heard) i ≡ true → AllBelow (prime (x .job)) (blockAt (answerLength (x .job)) (s .store) i))
+    (table : List ℕ) (exact : length table ≡ tableLength (x .job)) where
+  pub decode-number : first (decodeTests (x .job) (x .points) (s .heard) (s .store) (length table)) ≡ first ((ltb (ones (s .heard)) (neededOf (x .job)), 24) ∷ [])
   unfolding decodeTests someAbove
   decode-number =
-      let job = x .numbers in
+      let job = x .job in
       then-own job (x .points) _ (ok .planned)
       ∙ first-miss _ 21 _ (lt-leb (2 ^ job .hosts) (s .heard) (good .none-above))
       ∙ first-miss _ 13 _ (ap₂ _||_ (alike (length (s .store)) (storeLength job) (good .room)) (alike (length table) (tableLength job) exact))
       ∙ first-last _ _ 14 (ap not (heard-below (prime job) (answerLength job) (s .heard) (s .store) (job .hosts) (λ i l. below i)))
 
-  pub carried-out : (first (decodeTests (x .numbers) (x .points) (s .heard) (s .store) (length table)) ≡ 0)
-      ↔ (neededOf (x .numbers) ≤ size (isHeard (s .heard)) (x .numbers .hosts))
+  pub carried-out : (first (decodeTests (x .job) (x .points) (s .heard) (s .store) (length table)) ≡ 0)
+      ↔ (neededOf (x .job) ≤ size (isHeard (s .heard)) (x .job .hosts))
   carried-out =
-      let count = ones-size (s .heard) (x .numbers .hosts) (good .none-above) in
-      let few = ltb (ones (s .heard)) (neededOf (x .numbers)) in (
-        (λ e. omega (arith, count, ltb-false (ones (s .heard)) (neededOf (x .numbers)) (first-clear few 23 [] (sym decode-number ∙ e) .0))),
-        (λ l. decode-number ∙ first-miss few 24 [] (le-ltb (ones (s .heard)) (neededOf (x .numbers)) (omega (arith, count))) ∙ first-none),
+      let count = ones-size (s .heard) (x .job .hosts) (good .none-above) in
+      let few = ltb (ones (s .heard)) (neededOf (x .job)) in (
+        (λ e. omega (arith, count, ltb-false (ones (s .heard)) (neededOf (x .job)) (first-clear few 23 [] (sym decode-number ∙ e) .0))),
+        (λ l. decode-number ∙ first-miss few 24 [] (le-ltb (ones (s .heard)) (neededOf (x .job)) (omega (arith, count))) ∙ first-none),
       )
 
-module _ (x : Task) (ok : Accepted x) (ma mb store : List ℕ) (room : length store ≡ storeLength (x .numbers)) where
+module _ (x : Task) (ok : Accepted x) (ma mb store : List ℕ) (room : length store ≡ storeLength (x .job)) where
   start : Good x (begin store)
   unfolding begin
-  start = record { none-above = pow-pos (x .numbers .hosts); room = room }
+  start = record { none-above = pow-pos (x .job .hosts); room = room }
 
   ran-from : (calls : List Call) → Ran x (begin store) calls
   ran-from calls = ran x ok calls (begin store) start
@@ -131,26 +131,26 @@ module _ (x : Task) (ok : Accepted x) (ma mb store : List ℕ) (room : length st
 
   -- the block of a host heard is its first fit message's
   block-is : (calls : List Call) (i : ℕ) → isHeard (run x (begin store) calls .heard) i ≡ true
-      → blockAt (answerLength (x .numbers)) (run x (begin store) calls .store) i ≡ elements (firstFit x (begin store) calls i)
+      → blockAt (answerLength (x .job)) (run x (begin store) calls .store) i ≡ elements (firstFit x (begin store) calls i)
   unfolding begin
   block-is calls i e = ran-from calls .new i (none-heard i) (sym (heard-is calls i) ∙ e)
 
   block-below : (calls : List Call) (i : ℕ) → isHeard (run x (begin store) calls .heard) i ≡ true
-      → AllBelow (prime (x .numbers)) (blockAt (answerLength (x .numbers)) (run x (begin store) calls .store) i)
+      → AllBelow (prime (x .job)) (blockAt (answerLength (x .job)) (run x (begin store) calls .store) i)
   block-below calls i e =
-      subst (λ (xs : List ℕ). AllBelow (prime (x .numbers)) xs) (sym (block-is calls i e)) (ran-from calls .below i (sym (heard-is calls i) ∙ e))
+      subst (λ (xs : List ℕ). AllBelow (prime (x .job)) xs) (sym (block-is calls i e)) (ran-from calls .below i (sym (heard-is calls i) ∙ e))
 
   -- as many are heard as have a fit message
-  count-is : (calls : List Call) → size (isHeard (run x (begin store) calls .heard)) (x .numbers .hosts) ≡ size (hasFit x (begin store) calls) (x .numbers .hosts)
+  count-is : (calls : List Call) → size (isHeard (run x (begin store) calls .heard)) (x .job .hosts) ≡ size (hasFit x (begin store) calls) (x .job .hosts)
   unfolding size
-  count-is calls = ap length (members-cong _ _ (x .numbers .hosts) (λ i l. heard-is calls i))
+  count-is calls = ap length (members-cong _ _ (x .job .hosts) (λ i l. heard-is calls i))
 
-  module _ (before rest : List Call) (table : List ℕ) (exact-length : length table ≡ tableLength (x .numbers)) where
+  module _ (before rest : List Call) (table : List ℕ) (exact-length : length table ≡ tableLength (x .job)) where
     state : State
     state = run x (begin store) before
 
-    decides : (first (decodeTests (x .numbers) (x .points) (state .heard) (state .store) (length table)) ≡ 0)
-        ↔ (neededOf (x .numbers) ≤ size (isHeard (state .heard)) (x .numbers .hosts))
+    decides : (first (decodeTests (x .job) (x .points) (state .heard) (state .store) (length table)) ≡ 0)
+        ↔ (neededOf (x .job) ≤ size (isHeard (state .heard)) (x .job .hosts))
     unfolding state
     decides = carried-out x ok state (ran-from before .good) (block-below before) table exact-length
 
@@ -162,25 +162,25 @@ module _ (x : Task) (ok : Accepted x) (ma mb store : List ℕ) (room : length st
 
     decides-fit : (calls : List Call) → calls ≡ before ++ (decoding table ∷ rest)
         → (getD (replies x (begin store) calls) (length before) unanswered .number ≡ 0)
-        ↔ (neededOf (x .numbers) ≤ size (hasFit x (begin store) before) (x .numbers .hosts))
+        ↔ (neededOf (x .job) ≤ size (hasFit x (begin store) before) (x .job .hosts))
     unfolding state reply
     decides-fit calls e =
-        let told : getD (replies x (begin store) calls) (length before) unanswered .number ≡ first (decodeTests (x .numbers) (x .points) (state .heard) (state .store) (length table))
+        let told : getD (replies x (begin store) calls) (length before) unanswered .number ≡ first (decodeTests (x .job) (x .points) (state .heard) (state .store) (length table))
         = ap (λ (r : Reply). r .number) (reply-is calls e) in (
-          (λ z. subst (λ (n : ℕ). neededOf (x .numbers) ≤ n) (count-is before) (decides .0 (sym told ∙ z))),
-          (λ l. told ∙ decides .1 (subst (λ (n : ℕ). neededOf (x .numbers) ≤ n) (sym (count-is before)) l)),
+          (λ z. subst (λ (n : ℕ). neededOf (x .job) ≤ n) (count-is before) (decides .0 (sym told ∙ z))),
+          (λ l. told ∙ decides .1 (subst (λ (n : ℕ). neededOf (x .job) ≤ n) (sym (count-is before)) l)),
         )
 
     table-is : (calls : List Call) → calls ≡ before ++ (decoding table ∷ rest)
-        → neededOf (x .numbers) ≤ size (hasFit x (begin store) before) (x .numbers .hosts)
-        → ((i : ℕ) → i < x .numbers .hosts → hasFit x (begin store) before i ≡ true → firstFit x (begin store) before i ≡ trueProduct x (suc i) ma mb)
+        → neededOf (x .job) ≤ size (hasFit x (begin store) before) (x .job .hosts)
+        → ((i : ℕ) → i < x .job .hosts → hasFit x (begin store) before i ≡ true → firstFit x (begin store) before i ≡ trueProduct x (suc i) ma mb)
         → getD (replies x (begin store) calls) (length before) unanswered .table
-        ≡ productOf (prime (x .numbers)) (x .numbers .t) (x .numbers .s) (x .numbers .r) (x .a) (x .b)
+        ≡ productOf (prime (x .job)) (x .job .t) (x .job .s) (x .job .r) (x .a) (x .b)
     unfolding state reply tableAfter answerBlock answer share matrix
     table-is calls e enough true-first =
-        let many = subst (λ (n : ℕ). neededOf (x .numbers) ≤ n) (sym (count-is before)) enough in
+        let many = subst (λ (n : ℕ). neededOf (x .job) ≤ n) (sym (count-is before)) enough in
         ap (λ (r : Reply). r .table) (reply-is calls e)
-        ∙ answer-done (tableOf (x .numbers) (x .points) (state .heard) (state .store)) (λ n. table) _ (decides .1 many)
+        ∙ outcome-done (tableOf (x .job) (x .points) (state .heard) (state .store)) (λ n. table) _ (decides .1 many)
         ∙ exact x ok ma mb (state .heard) (state .store) many (λ h l is-heard.
         block-is before h is-heard ∙ ap elements (true-first h l (sym (heard-is before h) ∙ is-heard)) ∙ elements-true x ok ma mb h l)
 

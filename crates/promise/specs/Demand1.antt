@@ -15,7 +15,7 @@ use mathlib.Core.List.{List, [], _∷_, _++_}
 use Prim.Native.Nat.{ℕ, _<_}
 use lib.IntN.{ℤ}
 use lib.ListN.{length, getD, drop}
-use Rattle.refusal.specs.Chain.{Row, first, Told}
+use Rattle.refusal.specs.Chain.{Test, first, Told}
 use Rattle.field.specs.Modulus.{modulus, noModulus, named}
 use Rattle.field.specs.Modulus.{told as Modulus·told}
 use Rattle.plan.specs.declared.Job.{Job}
@@ -33,13 +33,13 @@ use Rattle.arrival_heard.specs.Heard.{withPlace}
 use Rattle.arrival.specs.Arriving.{answerLength, withBlock, place, arrivalTests, arrived, storeAfter, heardAfter}
 use Rattle.arrival.specs.Arriving.{numberOf as Arriving·numberOf}
 use Rattle.decode.specs.Decoding.{tableOf, decodeTests, tableAfter}
-use Rattle.field_signed.specs.Signed.{signed, element, signedTests, elementTests, signedAnswer, elementAnswer, signedTold, elementTold}
+use Rattle.field_signed.specs.Signed.{signed, element, signedTests, elementTests, signedOutcome, elementOutcome, signedTold, elementTold}
 
 -- the row at i; there is none past the end
-abbrev pub row : List Row → ℕ → Row
+abbrev pub row : List Test → ℕ → Test
 row rows i = getD rows i (false, 0)
 
-pub record Judged (rows : List Row) (n : ℕ) : Type 0 where
+pub record Judged (rows : List Test) (n : ℕ) : Type 0 where
   pub carried-out : (n ≡ 0) ↔ ((i : ℕ) → i < length rows → row rows i .0 ≡ false)
   pub refused : (n ≡ 0 → ⊥)
       → (i : ℕ) × (i < length rows) × (row rows i .0 ≡ true) × (row rows i .1 ≡ n) × ((j : ℕ) → j < i → row rows j .0 ≡ false)
@@ -48,7 +48,7 @@ pub record Leaves (n : ℕ) (after done was : List ℕ) : Type 0 where
   pub carried-out : n ≡ 0 → after ≡ done
   pub refused : (n ≡ 0 → ⊥) → after ≡ was
 
-pub record Tells {A : Type 0} (rows : List Row) (t : Told A) (values : List A) : Type 0 where
+pub record Tells {A : Type 0} (rows : List Test) (t : Told A) (values : List A) : Type 0 where
   pub judged : Judged rows (t .number)
   pub carried-out : t .number ≡ 0 → t .values ≡ values
   pub refused : (t .number ≡ 0 → ⊥) → t .values ≡ []
@@ -83,6 +83,6 @@ pub record Demand1 : Type 0 where
       → Judged (decodeTests job points heard store (length table)) (first (decodeTests job points heard store (length table)))
       × Leaves (first (decodeTests job points heard store (length table))) (tableAfter job points heard store table) (tableOf job points heard store) table
   -- Calls that the demand does not name. Signed reading and its way back; a modulus number names its modulus.
-  pub signed-reading : (n v : ℕ) → Tells (signedTests n v) (signedTold (signedAnswer n v)) (signed (modulus n) v ∷ [])
-  pub way-back : (n : ℕ) (z : ℤ) → Tells (elementTests n z) (elementTold (elementAnswer n z)) (element (modulus n) z ∷ [])
+  pub signed-reading : (n v : ℕ) → Tells (signedTests n v) (signedTold (signedOutcome n v)) (signed (modulus n) v ∷ [])
+  pub way-back : (n : ℕ) (z : ℤ) → Tells (elementTests n z) (elementTold (elementOutcome n z)) (element (modulus n) z ∷ [])
   pub naming : (n : ℕ) → Tells ((noModulus n, 1) ∷ []) (Modulus·told (named n)) (n ∷ [])

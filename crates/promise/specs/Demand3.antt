@@ -47,7 +47,7 @@ use Rattle.arrival.specs.Arriving.{storeLength, place, arrivalTests, arrived, s
 use Rattle.decode.specs.Decoding.{tableLength, decodeTests, tableAfter}
 
 pub record Task : Type 0 where
-  pub numbers : Job
+  pub job : Job
   pub points : List ℕ
   pub a : List ℕ
   pub b : List ℕ
@@ -59,17 +59,17 @@ matrix B x = x .b
 -- "A job is accepted when no plan number fits it, A and B have exact length and their elements are below q." Its job number is
 -- any 32-bit value.
 pub record Accepted (x : Task) : Type 0 where
-  pub planned : first (planTests (x .numbers) (x .points)) ≡ 0
-  pub length-a : length (x .a) ≡ x .numbers .t * x .numbers .s
-  pub length-b : length (x .b) ≡ x .numbers .s * x .numbers .r
-  pub below-a : AllBelow (prime (x .numbers)) (x .a)
-  pub below-b : AllBelow (prime (x .numbers)) (x .b)
-  pub number : x .numbers .number < 2 ^ 32
+  pub planned : first (planTests (x .job) (x .points)) ≡ 0
+  pub length-a : length (x .a) ≡ x .job .t * x .job .s
+  pub length-b : length (x .b) ≡ x .job .s * x .job .r
+  pub below-a : AllBelow (prime (x .job)) (x .a)
+  pub below-b : AllBelow (prime (x .job)) (x .b)
+  pub number : x .job .number < 2 ^ 32
 
 -- "Its public numbers are modulus number, t, s, r, m, p, n, X_A, X_B, N and job number."
 unfoldable pub publicNumbers : Task → List ℕ
 publicNumbers x =
-    let job = x .numbers in
+    let job = x .job in
     job .modulus
     ∷ job .t
     ∷ job .s
@@ -89,12 +89,12 @@ pub record SamePublic (x y : Task) : Type 0 where
 
 -- "Masks are any lists of exact length with elements below q."
 pub record Masks (m : Matrix) (x : Task) (ms : List ℕ) : Type 0 where
-  pub exact : length ms ≡ maskLength (side m (planOf (x .numbers)))
-  pub below : AllBelow (prime (x .numbers)) ms
+  pub exact : length ms ≡ maskLength (side m (planOf (x .job)))
+  pub below : AllBelow (prime (x .job)) ms
 
 unfoldable pub largest : Matrix → Task → ℕ
-largest A x = x .numbers .xa
-largest B x = x .numbers .xb
+largest A x = x .job .xa
+largest B x = x .job .xb
 
 -- 1 = A share, 2 = B share
 unfoldable pub kindOf : Matrix → ℕ
@@ -105,28 +105,28 @@ kindOf B = 2
 unfoldable pub headerFor : ℕ → Task → ℕ → ℕ → ℕ → Header
 headerFor kind x i rows columns = record {
   kind = kind;
-  modulus = x .numbers .modulus;
+  modulus = x .job .modulus;
   host = i;
   rows = rows;
   columns = columns;
-  number = x .numbers .number;
+  number = x .job .number;
 }
 
 unfoldable pub shareHeader : Matrix → Task → ℕ → Header
-shareHeader m x i = let s = side m (planOf (x .numbers)) in headerFor (kindOf m) x i (s .rows) (s .columns)
+shareHeader m x i = let s = side m (planOf (x .job)) in headerFor (kindOf m) x i (s .rows) (s .columns)
 
 unfoldable pub answerHeader : Task → ℕ → Header
-answerHeader x i = headerFor 3 x i (blockRows (x .numbers)) (blockColumns (x .numbers))
+answerHeader x i = headerFor 3 x i (blockRows (x .job)) (blockColumns (x .job))
 
 -- "Host i's A message is the one for kind 1, the job's numbers, host i and its A share. Its B message is the same with kind 2
 -- and its B share"
 unfoldable pub shareMessage : Matrix → Task → ℕ → List ℕ → List ℕ
-shareMessage m x i ms = messageOf (shareHeader m x i) (hostShare m (x .numbers) (x .points) i (matrix m x) ms)
+shareMessage m x i ms = messageOf (shareHeader m x i) (hostShare m (x .job) (x .points) i (matrix m x) ms)
 
 -- "its true product with kind 3 and its A share times its B share"
 unfoldable pub trueProduct : Task → ℕ → List ℕ → List ℕ → List ℕ
 trueProduct x i ma mb =
-    let job = x .numbers in
+    let job = x .job in
     messageOf (answerHeader x i)
     (productOf (prime job) (blockRows job) (blockInner job) (blockColumns job)
     (hostShare A job (x .points) i (x .a) ma)
@@ -141,7 +141,7 @@ pub record Hidden (m : Matrix) (x y : Task) (g : ℕ → Bool) : Type 0 where
   pub back-masks : (ms : List ℕ) → Masks m y ms → Masks m x (back ms)
   pub back-partner : (ms : List ℕ) → Masks m x ms → back (partner ms) ≡ ms
   pub partner-back : (ms : List ℕ) → Masks m y ms → partner (back ms) ≡ ms
-  pub same-bytes : (ms : List ℕ) → Masks m x ms → (i : ℕ) → i < x .numbers .hosts → g i ≡ true
+  pub same-bytes : (ms : List ℕ) → Masks m x ms → (i : ℕ) → i < x .job .hosts → g i ≡ true
       → shareMessage m x (suc i) ms ≡ shareMessage m y (suc i) (partner ms)
 
 -- "Between two accepted jobs with the same public numbers and points but other matrices, and for any group of gardens chosen
@@ -149,7 +149,7 @@ pub record Hidden (m : Matrix) (x y : Task) (g : ℕ → Bool) : Type 0 where
 -- byte-equal B messages."
 abbrev pub Privacy : Type 0
 Privacy =
-    (m : Matrix) (x y : Task) → Accepted x → Accepted y → SamePublic x y → (g : ℕ → Bool) → size g (x .numbers .hosts) ≤ largest m x
+    (m : Matrix) (x y : Task) → Accepted x → Accepted y → SamePublic x y → (g : ℕ → Bool) → size g (x .job .hosts) ≤ largest m x
     → Hidden m x y g
 
 -- an arrival with its bytes, or a decoding with its table as it stood before
@@ -175,19 +175,19 @@ module _ (x : Task) where
   -- store between, and a decoding changes neither."
   unfoldable pub after : State → Call → State
   after s (arrival message) = record {
-    heard = heardAfter (s .heard) (arrived (x .numbers) (x .points) (s .heard) (s .store) message);
-    store = storeAfter (x .numbers) (x .points) (s .heard) (s .store) message;
+    heard = heardAfter (s .heard) (arrived (x .job) (x .points) (s .heard) (s .store) message);
+    store = storeAfter (x .job) (x .points) (s .heard) (s .store) message;
   }
   after s (decoding table) = s
 
   unfoldable pub reply : State → Call → Reply
   reply s (arrival message) = record {
-    number = numberOf (arrived (x .numbers) (x .points) (s .heard) (s .store) message);
+    number = numberOf (arrived (x .job) (x .points) (s .heard) (s .store) message);
     table = [];
   }
   reply s (decoding table) = record {
-    number = first (decodeTests (x .numbers) (x .points) (s .heard) (s .store) (length table));
-    table = tableAfter (x .numbers) (x .points) (s .heard) (s .store) table;
+    number = first (decodeTests (x .job) (x .points) (s .heard) (s .store) (length table));
+    table = tableAfter (x .job) (x .points) (s .heard) (s .store) table;
   }
 
   unfoldable pub run : State → List Call → State
@@ -200,7 +200,7 @@ module _ (x : Task) where
 
   -- "An arrival is fit when, 21 and 23 aside, no refusal number for arrivals fits it"
   unfoldable pub fit : State → List ℕ → Bool
-  fit s message = eqb (first (except 21 (except 23 (arrivalTests (x .numbers) (x .points) (s .heard) (length (s .store)) message)))) 0
+  fit s message = eqb (first (except 21 (except 23 (arrivalTests (x .job) (x .points) (s .heard) (length (s .store)) message)))) 0
 
   -- "its message is then a fit message of the host it names"
   unfoldable pub fitFor : State → ℕ → Call → Bool
@@ -227,47 +227,47 @@ begin store = record { heard = 0; store = store }
 pub record Trace (x : Task) (ma mb store : List ℕ) (calls : List Call) : Type 0 where
   -- "after it the gardens heard are exactly those with a fit message in it"
   pub heard : (i : ℕ) → isHeard (run x (begin store) calls .heard) i ≡ hasFit x (begin store) calls i
-  pub none-above : run x (begin store) calls .heard < 2 ^ x .numbers .hosts
+  pub none-above : run x (begin store) calls .heard < 2 ^ x .job .hosts
   -- "each decoding in it, into a table of exact length, is carried out exactly when at least K gardens had a fit message
   -- before it"
   pub carried-out : (before rest : List Call) (table : List ℕ) → calls ≡ before ++ (decoding table ∷ rest)
-      → length table ≡ tableLength (x .numbers)
+      → length table ≡ tableLength (x .job)
       → (getD (replies x (begin store) calls) (length before) unanswered .number ≡ 0)
-      ↔ (neededOf (x .numbers) ≤ size (hasFit x (begin store) before) (x .numbers .hosts))
+      ↔ (neededOf (x .job) ≤ size (hasFit x (begin store) before) (x .job .hosts))
   -- "and then its table, where the first fit message of each garden heard is that garden's true product, is exactly the job's
   -- own A times B over the field"
   pub exact : (before rest : List Call) (table : List ℕ) → calls ≡ before ++ (decoding table ∷ rest)
-      → length table ≡ tableLength (x .numbers)
-      → neededOf (x .numbers) ≤ size (hasFit x (begin store) before) (x .numbers .hosts)
-      → ((i : ℕ) → i < x .numbers .hosts → hasFit x (begin store) before i ≡ true
+      → length table ≡ tableLength (x .job)
+      → neededOf (x .job) ≤ size (hasFit x (begin store) before) (x .job .hosts)
+      → ((i : ℕ) → i < x .job .hosts → hasFit x (begin store) before i ≡ true
       → firstFit x (begin store) before i ≡ trueProduct x (suc i) ma mb)
       → getD (replies x (begin store) calls) (length before) unanswered .table
-      ≡ productOf (prime (x .numbers)) (x .numbers .t) (x .numbers .s) (x .numbers .r) (x .a) (x .b)
+      ≡ productOf (prime (x .job)) (x .job .t) (x .job .s) (x .job .r) (x .a) (x .b)
 
 -- "Shares, products, K and the bytes of messages are as laid out above, which is what sharing, the host's product, planning and
 -- writing give." The lent buffers are of exact length, and whatever they held.
 pub record Made (x : Task) (i : ℕ) (ma mb : List ℕ) : Type 0 where
   -- planning tells the layout, K and the sizes of blocks
-  pub plan : told (planned (x .numbers) (x .points)) ≡ done (planValues (x .numbers))
+  pub plan : told (planned (x .job) (x .points)) ≡ done (planValues (x .job))
   pub share : (m : Matrix) (ms out message : List ℕ) → Masks m x ms
-      → length out ≡ blockLength (side m (planOf (x .numbers)))
+      → length out ≡ blockLength (side m (planOf (x .job)))
       → length message ≡ 16 + 4 * elementCount (shareHeader m x i)
-      → written (shareHeader m x i) (shareAfter m (x .numbers) (x .points) i (matrix m x) ms out) message ≡ shareMessage m x i ms
-  pub product : (out-a out-b out message : List ℕ) → length out-a ≡ blockLength (side A (planOf (x .numbers)))
-      → length out-b ≡ blockLength (side B (planOf (x .numbers)))
-      → length out ≡ blockRows (x .numbers) * blockColumns (x .numbers)
+      → written (shareHeader m x i) (shareAfter m (x .job) (x .points) i (matrix m x) ms out) message ≡ shareMessage m x i ms
+  pub product : (out-a out-b out message : List ℕ) → length out-a ≡ blockLength (side A (planOf (x .job)))
+      → length out-b ≡ blockLength (side B (planOf (x .job)))
+      → length out ≡ blockRows (x .job) * blockColumns (x .job)
       → length message ≡ 16 + 4 * elementCount (answerHeader x i)
       → written (answerHeader x i)
-      (productAfter (x .numbers .modulus) (blockRows (x .numbers)) (blockInner (x .numbers)) (blockColumns (x .numbers))
-      (shareAfter A (x .numbers) (x .points) i (x .a) ma out-a)
-      (shareAfter B (x .numbers) (x .points) i (x .b) mb out-b)
+      (productAfter (x .job .modulus) (blockRows (x .job)) (blockInner (x .job)) (blockColumns (x .job))
+      (shareAfter A (x .job) (x .points) i (x .a) ma out-a)
+      (shareAfter B (x .job) (x .points) i (x .b) mb out-b)
       out)
       message
       ≡ trueProduct x i ma mb
   -- the product that a partner links into a C program makes the bytes of the true product's elements from those of the A
   -- message's and the B message's
   pub host : (out : List ℕ) → length out ≡ 4 * elementCount (answerHeader x i)
-      → hostAfter (x .numbers .modulus) (blockRows (x .numbers)) (blockInner (x .numbers)) (blockColumns (x .numbers))
+      → hostAfter (x .job .modulus) (blockRows (x .job)) (blockInner (x .job)) (blockColumns (x .job))
       (payload (shareMessage A x i ma))
       (payload (shareMessage B x i mb))
       out
@@ -278,10 +278,10 @@ pub record Demand3 : Type 0 where
   -- "Yet for either job, under any masks, and for every list of arrivals and decodings of it, in any order, refused ones
   -- included, from no garden heard and whatever the store held: .."
   pub yet : (x : Task) → Accepted x → (ma mb : List ℕ) → Masks A x ma → Masks B x mb → (store : List ℕ)
-      → length store ≡ storeLength (x .numbers) → (calls : List Call) → Trace x ma mb store calls
+      → length store ≡ storeLength (x .job) → (calls : List Call) → Trace x ma mb store calls
   -- "A true product's bytes never make an arrival unfit."
   pub true-fit : (x : Task) → Accepted x → (ma mb : List ℕ) → Masks A x ma → Masks B x mb → (s : State)
-      → length (s .store) ≡ storeLength (x .numbers) → (i : ℕ) → i < x .numbers .hosts
+      → length (s .store) ≡ storeLength (x .job) → (i : ℕ) → i < x .job .hosts
       → fitFor x s i (arrival (trueProduct x (suc i) ma mb)) ≡ true
-  pub made : (x : Task) → Accepted x → (ma mb : List ℕ) → Masks A x ma → Masks B x mb → (i : ℕ) → i < x .numbers .hosts
+  pub made : (x : Task) → Accepted x → (ma mb : List ℕ) → Masks A x ma → Masks B x mb → (i : ℕ) → i < x .job .hosts
       → Made x (suc i) ma mb

@@ -29,7 +29,7 @@ use Rattle.share_side.specs.declared.Matrix.the-variants.{A, B}
 use Rattle.share.specs.Sharing.{shareAfter}
 use Rattle.decode.specs.Decoding.{tableAfter}
 use Rattle.field_signed.specs.declared.Signed.{Signed}
-use Rattle.field_signed.specs.Signed.{signedAnswer, signedTold}
+use Rattle.field_signed.specs.Signed.{signedOutcome, signedTold}
 
 abbrev pub Line : Type 0
 Line = List ℕ × List ℕ
@@ -79,7 +79,7 @@ starred =
     ∷ (answer 1 ++ (answer 2 ++ answer 3), 0 ∷ 2 ∷ 0 ∷ [])
     -- decoded 7, signed -6
     ∷ (decoded, 7 ∷ [])
-    ∷ (reading (signedAnswer 1 (getD decoded 0 0)), 0 ∷ 1 ∷ 6 ∷ [])
+    ∷ (reading (signedOutcome 1 (getD decoded 0 0)), 0 ∷ 1 ∷ 6 ∷ [])
     -- with A = 6, mask 0 gives host 2 the same share 6
     ∷ (share A 6 0 2, 6 ∷ [])
     -- p, m, n, X_A = X_B: 2, 2, 3, 2 gives 23, layout 1

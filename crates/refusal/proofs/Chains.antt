@@ -8,9 +8,9 @@
 --   first-append             one list of tests after another
 --   first-append-clear       no test of either holds
 --   first-append-hit         the first list tells a number already
---   answer-refused, answer-done  an answer by its number
---   answer-map               a function of an answer
---   told-number              the number that an answer says on paper
+--   outcome-refused, outcome-done  an answer by its number
+--   outcome-map               a function of an answer
+--   told-number              the number that an outcome says on paper
 --   inside-low, inside-high  what a number in its range tells
 --   inside, under, over      a number is in a range, or is not
 use mathlib.Core.Path.{_≡_, refl, sym, ap, ap₂, subst}
@@ -21,30 +21,30 @@ use native.Mathlib.Nat.{suc-ne-zero}
 use lib.Dec.{T, eqb, ltb, T-not, eqb-refl}
 use borrow.Author.Tests.{ltb-false, lt-ltb, le-ltb}
 use Rattle.algebra.proofs.Tests.{and-left, and-right, both, or-left, or-right}
-use Rattle.refusal.specs.Chain.{Row, first, answer, done, refused, outside}
+use Rattle.refusal.specs.Chain.{Test, first, outcome, unlessRefused, done, refused, outside}
 
 pub first-none : first [] ≡ 0
 unfolding first
 first-none = refl
 
-pub first-hit : (b : Bool) (n : ℕ) (rows : List Row) → b ≡ true → first ((b, n) ∷ rows) ≡ n
+pub first-hit : (b : Bool) (n : ℕ) (rows : List Test) → b ≡ true → first ((b, n) ∷ rows) ≡ n
 unfolding first
 first-hit b n rows e = ap (λ (t : Bool). cond t n (first rows)) e
 
-pub first-miss : (b : Bool) (n : ℕ) (rows : List Row) → b ≡ false → first ((b, n) ∷ rows) ≡ first rows
+pub first-miss : (b : Bool) (n : ℕ) (rows : List Test) → b ≡ false → first ((b, n) ∷ rows) ≡ first rows
 unfolding first
 first-miss b n rows e = ap (λ (t : Bool). cond t n (first rows)) e
 
-pub first-clear : (b : Bool) (n : ℕ) (rows : List Row) → first ((b, suc n) ∷ rows) ≡ 0 → (b ≡ false) × (first rows ≡ 0)
+pub first-clear : (b : Bool) (n : ℕ) (rows : List Test) → first ((b, suc n) ∷ rows) ≡ 0 → (b ≡ false) × (first rows ≡ 0)
 unfolding first
 first-clear true n rows e = absurd (suc-ne-zero n e)
 first-clear false n rows e = (refl, e)
 
-unfoldable pub numbered : List Row → Bool
+unfoldable pub numbered : List Test → Bool
 numbered [] = true
 numbered (row ∷ rows) = not (eqb (row .1) 0) && numbered rows
 
-pub numbered-append : (xs ys : List Row) → T (numbered xs) → T (numbered ys) → T (numbered (xs ++ ys))
+pub numbered-append : (xs ys : List Test) → T (numbered xs) → T (numbered ys) → T (numbered (xs ++ ys))
 unfolding numbered
 numbered-append [] ys t u = u
 numbered-append (x ∷ xs) ys t u =
@@ -52,7 +52,7 @@ numbered-append (x ∷ xs) ys t u =
     (numbered-append xs ys (and-right (not (eqb (x .1) 0)) (numbered xs) t) u)
 
 -- none of the first rows' tests holds: the later rows decide
-pub first-append : (xs ys : List Row) → T (numbered xs) → first xs ≡ 0 → first (xs ++ ys) ≡ first ys
+pub first-append : (xs ys : List Test) → T (numbered xs) → first xs ≡ 0 → first (xs ++ ys) ≡ first ys
 unfolding first numbered
 first-append [] ys t z = refl
 first-append (x ∷ xs) ys t z = go (x .0) (x .1) t z (first-append xs ys)
@@ -63,7 +63,7 @@ first-append (x ∷ xs) ys t z = go (x .0) (x .1) t z (first-append xs ys)
     go false n t z ih = ih (and-right (not (eqb n 0)) (numbered xs) t) z
 
 -- no test of two lists holds: none of either
-pub first-append-clear : (xs ys : List Row) → T (numbered xs) → first (xs ++ ys) ≡ 0 → (first xs ≡ 0) × (first ys ≡ 0)
+pub first-append-clear : (xs ys : List Test) → T (numbered xs) → first (xs ++ ys) ≡ 0 → (first xs ≡ 0) × (first ys ≡ 0)
 unfolding first numbered
 first-append-clear [] ys t e = (refl, e)
 first-append-clear (x ∷ xs) ys t e = go (x .0) (x .1) t e (first-append-clear xs ys)
@@ -74,7 +74,7 @@ first-append-clear (x ∷ xs) ys t e = go (x .0) (x .1) t e (first-append-clear 
     go false n t z ih = ih (and-right (not (eqb n 0)) (numbered xs) t) z
 
 -- one of the first rows' tests holds: the later rows are not looked at
-pub first-append-hit : (xs ys : List Row) (n : ℕ) → (n ≡ 0 → ⊥) → first xs ≡ n → first (xs ++ ys) ≡ n
+pub first-append-hit : (xs ys : List Test) (n : ℕ) → (n ≡ 0 → ⊥) → first xs ≡ n → first (xs ++ ys) ≡ n
 unfolding first
 first-append-hit [] ys n ne e = absurd (ne (sym e))
 first-append-hit (x ∷ xs) ys n ne e = go (x .0) (x .1) e (first-append-hit xs ys n ne)
@@ -84,22 +84,32 @@ first-append-hit (x ∷ xs) ys n ne e = go (x .0) (x .1) e (first-append-hit xs 
     go false k e ih = ih e
 
 module _ {A : Type 0} (value : A) (refused : ℕ → A) where
-  pub answer-done : (n : ℕ) → n ≡ 0 → answer n value refused ≡ value
-  unfolding answer
-  answer-done n e = ap (λ (k : ℕ). answer k value refused) e
+  pub outcome-done : (n : ℕ) → n ≡ 0 → outcome n value refused ≡ value
+  unfolding outcome
+  outcome-done n e = ap (λ (k : ℕ). outcome k value refused) e
 
-  pub answer-refused : (n : ℕ) → (n ≡ 0 → ⊥) → answer n value refused ≡ refused n
-  unfolding answer
-  answer-refused zero ne = absurd (ne refl)
-  answer-refused (suc n) ne = refl
+  pub outcome-refused : (n : ℕ) → (n ≡ 0 → ⊥) → outcome n value refused ≡ refused n
+  unfolding outcome
+  outcome-refused zero ne = absurd (ne refl)
+  outcome-refused (suc n) ne = refl
 
-pub answer-map : {A B : Type 0} (f : A → B) (value : A) (refused : ℕ → A) (n : ℕ) → f (answer n value refused) ≡ answer n (f value) (λ k. f (refused k))
-unfolding answer
-answer-map f value refused zero = refl
-answer-map f value refused (suc n) = refl
+pub outcome-map : {A B : Type 0} (f : A → B) (value : A) (refused : ℕ → A) (n : ℕ) → f (outcome n value refused) ≡ outcome n (f value) (λ k. f (refused k))
+unfolding outcome
+outcome-map f value refused zero = refl
+outcome-map f value refused (suc n) = refl
 
-pub told-number : {A : Type 0} (values : List A) (n : ℕ) → answer n (done values) refused .number ≡ n
-unfolding answer
+-- what a lent buffer holds after a call: what is made where no test holds, and what it was where one does
+module _ {A : Type 0} (tests : List Test) (made was : A) where
+  pub unless-done : first tests ≡ 0 → unlessRefused tests made was ≡ made
+  unfolding unlessRefused
+  unless-done = outcome-done made (λ n. was) (first tests)
+
+  pub unless-refused : (first tests ≡ 0 → ⊥) → unlessRefused tests made was ≡ was
+  unfolding unlessRefused
+  unless-refused = outcome-refused made (λ n. was) (first tests)
+
+pub told-number : {A : Type 0} (values : List A) (n : ℕ) → outcome n (done values) refused .number ≡ n
+unfolding outcome
 told-number values zero = refl
 told-number values (suc n) = refl
 

@@ -9,11 +9,11 @@ use mathlib.Core.List.{List, [], _∷_, _++_}
 use Prim.Native.Nat.{ℕ, zero, suc}
 use lib.Dec.{T, eqb}
 use Rattle.algebra.proofs.Tests.{and-left, and-right, both}
-use Rattle.refusal.specs.Chain.{Row, first, except}
+use Rattle.refusal.specs.Chain.{Test, first, except}
 use Rattle.refusal.proofs.Chains.{first-clear, first-miss, numbered}
 
 module _ (n : ℕ) where
-  pub except-append : (xs ys : List Row) → except n (xs ++ ys) ≡ except n xs ++ except n ys
+  pub except-append : (xs ys : List Test) → except n (xs ++ ys) ≡ except n xs ++ except n ys
   unfolding except
   except-append [] ys = refl
   except-append (x ∷ xs) ys = go (eqb (x .1) n) (except-append xs ys)
@@ -21,9 +21,9 @@ module _ (n : ℕ) where
       go : (b : Bool) → except n (xs ++ ys) ≡ except n xs ++ except n ys
           → cond b (except n (xs ++ ys)) (x ∷ except n (xs ++ ys)) ≡ cond b (except n xs) (x ∷ except n xs) ++ except n ys
       go true ih = ih
-      go false ih = ap (λ (rows : List Row). x ∷ rows) ih
+      go false ih = ap (λ (rows : List Test). x ∷ rows) ih
 
-  pub except-numbered : (xs : List Row) → T (numbered xs) → T (numbered (except n xs))
+  pub except-numbered : (xs : List Test) → T (numbered xs) → T (numbered (except n xs))
   unfolding except numbered
   except-numbered [] t = t
   except-numbered (x ∷ xs) t =
@@ -33,7 +33,7 @@ module _ (n : ℕ) where
       go true own ih = ih
       go false own ih = both (not (eqb (x .1) 0)) (numbered (except n xs)) own ih
 
-  pub except-clear : (xs : List Row) → T (numbered xs) → first xs ≡ 0 → first (except n xs) ≡ 0
+  pub except-clear : (xs : List Test) → T (numbered xs) → first xs ≡ 0 → first (except n xs) ≡ 0
   unfolding except numbered
   except-clear [] t e = e
   except-clear ((test, zero) ∷ xs) t e = absurd t

@@ -1,10 +1,9 @@
 // Refusals: the numbers of 01, "What is turned down", and the tests that several calls share.
 ghost use mathlib.Core.Path.{_≡_};
-ghost use mathlib.Core.Bool.{_||_};
 ghost use Prim.Native.Nat.{_*_};
 ghost use lib.Dec.{ltb};
 ghost use Rattle.refusal.specs.Chain.{outside as Chain·outside};
-ghost use Rattle.refusal.specs.Limits.{anyOutside, sizesOutside, overBlock};
+ghost use Rattle.refusal.specs.Limits.{mostElements, anyOutside, sizesOutside, overBlock};
 use words::wide_product;
 
 pub const MODULUS: u32 = 1;
@@ -59,10 +58,10 @@ pub const SIGNED: u32 = 25;
 
 pub const TEXT: u32 = 26;
 
-// The largest sizes and numbers that several calls test.
-pub const MOST_SIDE: u32 = 16384;
+// The largest numbers that several calls test (01, "The job"): a size, the elements of a block, and the hosts.
+pub const MOST_SIZE: u32 = 16384;
 
-pub const MOST_ELEMENTS: u32 = 4096;
+pub const MOST_ELEMENTS: usize = 4096;
 
 pub const MOST_HOSTS: u32 = 64;
 
@@ -73,43 +72,30 @@ pub fn outside(low: u32, high: u32, n: u32) -> bool
     n < low || high < n
 }
 
-// One of two tests holds.
-pub fn either(a: bool, b: bool) -> bool
-    ensures { λ r. ⌜ r ≡ (a || b) ⌝ }
-{
-    if a { true } else { b }
-}
-
 // One of three numbers is not 1 to most.
 pub fn any_outside(most: u32, x: u32, y: u32, z: u32) -> bool
     ensures { λ r. ⌜ r ≡ anyOutside most x y z ⌝ }
 {
-    either(
-        either(outside(1, most, x), outside(1, most, y)),
-        outside(1, most, z),
-    )
+    outside(1, most, x) | outside(1, most, y) | outside(1, most, z)
 }
 
 // One of three sizes is out of range.
 pub fn sizes_outside(x: u32, y: u32, z: u32) -> bool
     ensures { λ r. ⌜ r ≡ sizesOutside x y z ⌝ }
 {
-    any_outside(MOST_SIDE, x, y, z)
+    any_outside(MOST_SIZE, x, y, z)
 }
 
-// A block of rows by columns is too large.
-fn too_large(rows: u32, columns: u32) -> bool
-    ensures { λ r. ⌜ r ≡ ltb 4096 (rows * columns) ⌝ }
+// A block of rows by columns has too many elements.
+pub fn too_large(rows: u32, columns: u32) -> bool
+    ensures { λ r. ⌜ r ≡ ltb mostElements (rows * columns) ⌝ }
 {
     (MOST_ELEMENTS as u64) < wide_product(rows, columns)
 }
 
-// A block of rows by inner, inner by columns or rows by columns is too large.
+// A block of rows by inner, inner by columns or rows by columns has too many elements.
 pub fn over_block(rows: u32, inner: u32, columns: u32) -> bool
     ensures { λ r. ⌜ r ≡ overBlock rows inner columns ⌝ }
 {
-    either(
-        either(too_large(rows, inner), too_large(inner, columns)),
-        too_large(rows, columns),
-    )
+    too_large(rows, inner) | too_large(inner, columns) | too_large(rows, columns)
 }

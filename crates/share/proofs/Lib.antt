@@ -1,4 +1,4 @@
 -- Laws of sharing: sums and answers.
 pub mod Examples
 pub mod Sums
-pub mod Answers
+pub mod Outcomes

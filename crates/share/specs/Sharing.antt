@@ -15,7 +15,7 @@ use Prim.Native.Nat.{ℕ, _+_, _-_, _*_, _^_, _%_}
 use lib.ListN.{length, getD}
 use Rattle.algebra.specs.Lists.{grid, entry, allBelow}
 use Rattle.algebra.specs.Sums.{sum}
-use Rattle.refusal.specs.Chain.{Row, first, answer, outside}
+use Rattle.refusal.specs.Chain.{Test, first, outcome, outside}
 use Rattle.layout.specs.Exponents.{Exponents, exponents, term}
 use Rattle.plan.specs.declared.Job.{Job}
 use Rattle.plan.specs.Planning.{prime, parameters, layoutOf, planOf, planTests}
@@ -46,7 +46,7 @@ hostShare m job points host xs ms =
     shareOf (prime job) (exponents (layoutOf job) (parameters job)) (side m (planOf job)) (point points host) xs ms
 
 -- q is the prime, hosts is N, and room is how many elements the output has room for
-unfoldable pub ownTests : ℕ → ℕ → Side → ℕ → List ℕ → List ℕ → ℕ → List Row
+unfoldable pub ownTests : ℕ → ℕ → Side → ℕ → List ℕ → List ℕ → ℕ → List Test
 ownTests q hosts s host xs ms room =
     (outside 1 hosts host, 12)
     ∷ (lengthTest s (length xs) (length ms) room, 13)
@@ -54,10 +54,10 @@ ownTests q hosts s host xs ms room =
     ∷ (not (allBelow q ms), 15)
     ∷ []
 
-unfoldable pub shareTests : Matrix → Job → List ℕ → ℕ → List ℕ → List ℕ → ℕ → List Row
+unfoldable pub shareTests : Matrix → Job → List ℕ → ℕ → List ℕ → List ℕ → ℕ → List Test
 shareTests m job points host xs ms room =
     planTests job points ++ ownTests (prime job) (job .hosts) (side m (planOf job)) host xs ms room
 
 unfoldable pub shareAfter : Matrix → Job → List ℕ → ℕ → List ℕ → List ℕ → List ℕ → List ℕ
 shareAfter m job points host xs ms out =
-    answer (first (shareTests m job points host xs ms (length out))) (hostShare m job points host xs ms) (λ r. out)
+    outcome (first (shareTests m job points host xs ms (length out))) (hostShare m job points host xs ms) (λ r. out)

@@ -11,7 +11,7 @@ const LAST_DIGIT: usize = DIGITS - 1;
 
 // Writes the bytes from place `at` on and tells the place after them. Where they do not fit, it writes nothing and tells `at`.
 pub fn put_bytes(out: &mut [u8], at: usize, bytes: &[u8]) -> usize
-    ensures place { λ r. ⌜ r ≡ after at (now (bytes .entry)) (now (out .entry)) ⌝ }
+    ensures end { λ r. ⌜ r ≡ after at (now (bytes .entry)) (now (out .entry)) ⌝ }
     ensures text { λ _. ⌜ now (out .exit) ≡ put (now (out .entry)) at (now (bytes .entry)) ⌝ }
 {
     if out.len() < at {
@@ -31,7 +31,7 @@ pub fn put_bytes(out: &mut [u8], at: usize, bytes: &[u8]) -> usize
 // Writes the decimal digits of n from place `at` on and tells the place after them. Where they do not fit, it writes nothing
 // and tells `at`.
 pub fn put_decimal(out: &mut [u8], at: usize, n: u32) -> usize
-    ensures place { λ r. ⌜ r ≡ after at (decimal n) (now (out .entry)) ⌝ }
+    ensures end { λ r. ⌜ r ≡ after at (decimal n) (now (out .entry)) ⌝ }
     ensures text { λ _. ⌜ now (out .exit) ≡ put (now (out .entry)) at (decimal n) ⌝ }
 {
     let mut digits = [ZERO; DIGITS];

@@ -172,7 +172,7 @@ fn byte_at(text: &[u8], i: usize) -> u8
 // Reads the numbers of the text to the front of the output, one after another, and tells how many. At a fault it stops and
 // tells the place.
 pub fn read_numbers(text: &[u8], out: &mut [u32]) -> Numbers
-    ensures answer { λ r. ⌜ r ≡ answer (now (text .entry)) (length (now (out .entry))) ⌝ }
+    ensures outcome { λ r. ⌜ r ≡ answer (now (text .entry)) (length (now (out .entry))) ⌝ }
     ensures output { λ _. ⌜ now (out .exit) ≡ front (numbersOf (now (text .entry)) (length (now (out .entry)))) (now (out .entry)) ⌝ }
 {
     let mut part = Part {

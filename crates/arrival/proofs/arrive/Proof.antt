@@ -8,7 +8,7 @@ use Rattle.plan.specs.declared.Plan.{Plan}
 use Rattle.plan.specs.Planning.{blockRows, blockColumns, planOf, planTests}
 use Rattle.plan.proofs.Facts.{Fits, facts, planned-facts}
 use Rattle.arrival.specs.Arriving.{answerLength}
-use Rattle.arrival.proofs.Answers.{refused, told-plan, told-state}
+use Rattle.arrival.proofs.Outcomes.{refused, told-plan, told-state}
 use Rattle.arrival.proofs.arrive.Statement.{statement}
 use Rattle.arrival.proofs.arrive.Tie as tie
 

@@ -11,11 +11,11 @@ use Rattle.plan.specs.Planning.{planTests}
 use Rattle.message_header.specs.declared.Header.{Header}
 use Rattle.message_header.specs.Header.{headerOf}
 use Rattle.message.specs.Format.{elements, messageTests, examined}
-use Rattle.message_header.proofs.Answers.{done-told, refused-told}
+use Rattle.message_header.proofs.Outcomes.{done-told, refused-told}
 use Rattle.arrival_heard.specs.Heard.{withPlace}
 use Rattle.arrival_heard.proofs.Bits.{bit-of, with-below}
 use Rattle.arrival.specs.Arriving.{answerLength, storeLength, place, withBlock, stateTests, ownTests, arrivalTests}
-use Rattle.arrival.proofs.Answers.{host-low, Passed, passed, place-below, refused, done, told-message, told-own}
+use Rattle.arrival.proofs.Outcomes.{host-low, Passed, passed, place-below, refused, done, told-message, told-own}
 use Rattle.arrival.proofs.take_message.Statement.{statement}
 use Rattle.arrival.proofs.take_message.Tie as tie
 

@@ -7,7 +7,7 @@ use Rattle.plan.proofs.Facts.{facts, planned-facts}
 use Rattle.plan.proofs.Then.{then-refused, then-own}
 use Rattle.decode.specs.Decoding.{decodeTests}
 use Rattle.decode.specs.Weights.{ownTests}
-use Rattle.decode.proofs.Answers.{limited, refused, done}
+use Rattle.decode.proofs.Outcomes.{limited, refused, done}
 use borrow.Author.Needs.{needs}
 use Rattle.decode.proofs.decode.Statement.{statement}
 use Rattle.decode.proofs.decode.Tie as tie

@@ -15,7 +15,7 @@ use Rattle.plan.specs.Planning.{parameters, neededOf, planOf}
 use Rattle.plan.proofs.Facts.{Facts}
 use Rattle.decode.specs.Decoding.{chosen}
 use Rattle.decode.specs.Weights.{shape, weightsOf}
-use Rattle.decode.proofs.Answers.{rooms, Passed, known, told, chosen-are, lowest-are, within, roomy-for, decoded-is}
+use Rattle.decode.proofs.Outcomes.{rooms, Passed, known, told, chosen-are, lowest-are, within, roomy-for, decoded-is}
 use Rattle.decode.proofs.decode_chosen.Statement.{statement}
 use Rattle.decode.proofs.decode_chosen.Tie as tie
 

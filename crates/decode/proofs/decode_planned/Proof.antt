@@ -8,7 +8,7 @@ use lib.Seq.{length-take-le}
 use borrow.Author.Needs.{needs}
 use borrow.Author.Tests.{ltb-false}
 use Rattle.algebra.proofs.Tests.{or-left, or-right}
-use Rattle.decode.proofs.Answers.{Rooms, rooms, known}
+use Rattle.decode.proofs.Outcomes.{Rooms, rooms, known}
 use Rattle.decode.proofs.decode_planned.Statement.{statement}
 use Rattle.decode.proofs.decode_planned.Tie as tie
 

@@ -13,7 +13,7 @@ use Rattle.field_signed.specs.declared.Element.{Element}
 use Rattle.field_signed.specs.Signed.{half, inRange, element}
 use Rattle.field.proofs.Moduli.{Known, known, none-named}
 use Rattle.field_signed.proofs.Readings.{element-below}
-use Rattle.field_signed.proofs.Answers.{element-unknown, element-outside, element-value}
+use Rattle.field_signed.proofs.Outcomes.{element-unknown, element-outside, element-value}
 use Rattle.field_signed.proofs.Words.{word, negative, fitting, too-low, too-high, within, plain, wrapped, narrow}
 use Rattle.field_signed.proofs.element_of.Statement.{statement}
 use Rattle.field_signed.proofs.element_of.Tie as tie

@@ -8,7 +8,7 @@ use Rattle.field_signed.specs.declared.Signed.{Signed}
 use Rattle.field_signed.specs.Signed.{half}
 use Rattle.field.proofs.Moduli.{Known, known, none-named}
 use Rattle.field_signed.proofs.Readings.{signed-low, signed-high}
-use Rattle.field_signed.proofs.Answers.{signed-unknown, signed-above, signed-value}
+use Rattle.field_signed.proofs.Outcomes.{signed-unknown, signed-above, signed-value}
 use Rattle.field_signed.proofs.Words.{word, difference, fitting}
 use Rattle.field_signed.proofs.signed_reading.Statement.{statement}
 use Rattle.field_signed.proofs.signed_reading.Tie as tie

@@ -15,7 +15,7 @@ use Rattle.field.proofs.Moduli.{none-named}
 use Rattle.message_header.specs.declared.Header.{Header}
 use Rattle.message_header.specs.Header.{headerOf, elementCount, fieldTests, headerTests, headerRead}
 use Rattle.message_header.proofs.Fields.{Ranged, ranged, headed}
-use Rattle.message_header.proofs.Answers.{done-by, refused-by, done-told, refused-told}
+use Rattle.message_header.proofs.Outcomes.{done-by, refused-by, done-told, refused-told}
 use Rattle.message.specs.Format.{elements, elementTest, lengthTest, examined}
 use Rattle.message.proofs.Tests.{element-named, told-header, told-length, told-element, told-none}
 use Rattle.message.proofs.Parts.{elements-part}

@@ -6,11 +6,11 @@ use lib.ListN.{length}
 use borrow.Author.Needs.{needs}
 use Rattle.refusal.specs.Chain.{first}
 use Rattle.message_header.proofs.Fields.{ranged}
-use Rattle.message_header.proofs.Answers.{done-told, refused-told}
+use Rattle.message_header.proofs.Outcomes.{done-told, refused-told}
 use Rattle.message.specs.Format.{messageTests, examined}
 use Rattle.message.proofs.Fields.{readable}
 use Rattle.message.proofs.Parts.{read-part}
-use Rattle.message.proofs.Answers.{read-short, read-long, read-done, kept-short, kept}
+use Rattle.message.proofs.Outcomes.{read-short, read-long, read-done, kept-short, kept}
 use Rattle.message.proofs.read_message.Statement.{statement}
 use Rattle.message.proofs.read_message.Tie as tie
 

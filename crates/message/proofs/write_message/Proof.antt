@@ -11,7 +11,7 @@ use Rattle.message_header.specs.Header.{header}
 use Rattle.message.specs.Format.{writeTests}
 use Rattle.message.proofs.Fields.{writable}
 use Rattle.message.proofs.Parts.{written-part}
-use Rattle.message.proofs.Answers.{written-done, written-refused}
+use Rattle.message.proofs.Outcomes.{written-done, written-refused}
 use Rattle.message.proofs.write_message.Statement.{statement}
 use Rattle.message.proofs.write_message.Tie as tie
 

@@ -7,7 +7,7 @@ use Rattle.refusal.specs.Chain.{first}
 use Rattle.message_header.specs.declared.Header.{Header}
 use Rattle.message_header.specs.Header.{fieldTests, markTest, headerTests, headerRead}
 use Rattle.message_header.proofs.Tests.{told-short, told-mark, told-version, told-fields}
-use Rattle.message_header.proofs.Answers.{done-by, refused-by}
+use Rattle.message_header.proofs.Outcomes.{done-by, refused-by}
 use Rattle.message_header.proofs.read_header.Statement.{statement}
 use Rattle.message_header.proofs.read_header.Tie as tie
 

@@ -1,7 +1,7 @@
 -- `mukerihe::element_count` meets its contract.
 use Prim.Native.Nat.{_*_, _/_}
 use native.Mathlib.Omega.{arith}
-use Rattle.mukerihe.proofs.Answers.{eqb-same}
+use Rattle.mukerihe.proofs.Outcomes.{eqb-same}
 use Rattle.mukerihe.proofs.element_count.Statement.{statement}
 use Rattle.mukerihe.proofs.element_count.Tie as tie
 

@@ -2,7 +2,7 @@
 use mathlib.Core.Path.{refl, sym}
 use Prim.Native.Nat.{_≤_}
 use native.Mathlib.Nat.{le-trans}
-use Rattle.mukerihe.proofs.Answers.{refused, done}
+use Rattle.mukerihe.proofs.Outcomes.{refused, done}
 use lib.Seq.{length-take-le}
 use lib.ListN.{length}
 use borrow.Author.Needs.{needs}

@@ -10,7 +10,7 @@ use Rattle.field.specs.Modulus.{noModulus, named}
 use Rattle.field.proofs.Moduli.{none-named, known}
 use Rattle.plan.specs.Planning.{prime, layoutOf, neededOf, pointTests, planTests}
 use Rattle.plan.proofs.Ranges.{Ranged, ranged}
-use Rattle.plan.proofs.Answers.{plan-modulus, plan-range, plan-fit, plan-points, refused, accepted, layout-is, needed-is}
+use Rattle.plan.proofs.Outcomes.{plan-modulus, plan-range, plan-fit, plan-points, refused, accepted, layout-is, needed-is}
 use borrow.Author.Needs.{needs}
 use Rattle.plan.proofs.plan_job.Statement.{statement}
 use Rattle.plan.proofs.plan_job.Tie as tie

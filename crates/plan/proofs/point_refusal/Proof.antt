@@ -7,13 +7,13 @@ use mathlib.Core.Path.{_≡_, refl, sym}
 use native.Mathlib.Omega.{arith}
 use lib.ListN.{length}
 use Rattle.refusal.specs.Chain.{first}
-use Rattle.plan.specs.Planning.{pointRows, pointsRows}
+use Rattle.plan.specs.Planning.{pointTestsAt, allPointTests}
 use Rattle.plan.proofs.Points.{pass-point, stop-point, length-differs, length-same}
 use Rattle.plan.proofs.point_refusal.Statement.{statement}
 use Rattle.plan.proofs.point_refusal.Tie as tie
 
 abbrev Inv-loop : tie.InvT-loop
-Inv-loop q hosts points i₀ i = record { short : i ≤ length points; pass : first (pointsRows q points i) ≡ 0 }
+Inv-loop q hosts points i₀ i = record { short : i ≤ length points; pass : first (allPointTests q points i) ≡ 0 }
 
 abbrev μ-loop : tie.MeasureT-loop
 μ-loop q hosts points i₀ i = length points - i
@@ -22,7 +22,7 @@ returns : tie.Need-returns Inv-loop μ-loop
 returns c = sym (length-differs (c .before .before .args .q) (c .before .before .args .points .now) (c .before .before .args .hosts) (c .if1 .taken))
 
 loop-holds : tie.Need-loop-holds Inv-loop μ-loop
-unfolding first pointsRows
+unfolding first allPointTests
 loop-holds c = record { short = omega arith; pass = refl }
 
 mul-x : tie.Need-mul-x Inv-loop μ-loop
@@ -35,7 +35,7 @@ either-requires : tie.Need-either-requires Inv-loop μ-loop
 either-requires c κs = tt
 
 returns-2 : tie.Need-returns-2 Inv-loop μ-loop
-unfolding pointRows
+unfolding pointTestsAt
 returns-2 c =
     let e = c .before .before .before .before .before .before .before in
     let i = c .before .before .before .before .loop .i in
@@ -48,7 +48,7 @@ stands-before-requires : tie.Need-stands-before-requires Inv-loop μ-loop
 stands-before-requires c κs = omega arith
 
 returns-3 : tie.Need-returns-3 Inv-loop μ-loop
-unfolding pointRows
+unfolding pointTestsAt
 returns-3 c =
     let e = c .before .before .before .before .before .before .before .before .before in
     let i = c .before .before .before .before .before .before .loop .i in
@@ -65,7 +65,7 @@ loop-less : tie.Need-loop-less Inv-loop μ-loop
 loop-less c = omega arith
 
 loop-again : tie.Need-loop-again Inv-loop μ-loop
-unfolding pointRows
+unfolding pointTestsAt
 loop-again c =
     let e = c .before .before .before .before .before .before .before .before .before in
     let i = c .before .before .before .before .before .before .loop .i in

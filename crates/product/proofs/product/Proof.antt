@@ -6,7 +6,7 @@ use Rattle.refusal.specs.Chain.{first}
 use Rattle.field.specs.Modulus.{prime}
 use Rattle.field.proofs.Moduli.{Known, known, none-named}
 use Rattle.product.specs.Product.{productTests}
-use Rattle.product.proofs.Answers.{refused, done, ready}
+use Rattle.product.proofs.Outcomes.{refused, done, ready}
 use borrow.Author.Needs.{needs}
 use Rattle.product.proofs.product.Statement.{statement}
 use Rattle.product.proofs.product.Tie as tie

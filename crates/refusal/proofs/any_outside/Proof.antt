@@ -1,6 +1,6 @@
 -- `refusal::any_outside` meets its contract.
-use borrow.Author.Needs.{needs}
 use Rattle.refusal.specs.Limits.{anyOutside}
+use borrow.Author.Needs.{needs}
 use Rattle.refusal.proofs.any_outside.Statement.{statement}
 use Rattle.refusal.proofs.any_outside.Tie as tie
 
@@ -10,26 +10,12 @@ outside-requires c κs = search needs
 outside-requires-2 : tie.Need-outside-requires-2
 outside-requires-2 c κs = search needs
 
-either-requires : tie.Need-either-requires
-either-requires c κs = search needs
-
 outside-requires-3 : tie.Need-outside-requires-3
 outside-requires-3 c κs = search needs
 
-either-requires-2 : tie.Need-either-requires-2
-either-requires-2 c κs = search needs
-
 returns : tie.Need-returns
 unfolding anyOutside
-returns c = rw (c .either2 .ensures, c .before .outside3 .ensures, c .before .before .either .ensures, c .before .before .before .outside2 .ensures, c .before .before .before .before .outside .ensures)
+returns c = rw (c .outside3 .ensures, c .before .outside2 .ensures, c .before .before .outside .ensures)
 
 pub any-outside-spec : {M : Type 1} → statement M
-any-outside-spec =
-    tie.close
-    (tie.spec
-    outside-requires
-    outside-requires-2
-    either-requires
-    outside-requires-3
-    either-requires-2
-    returns)
+any-outside-spec = tie.close (tie.spec outside-requires outside-requires-2 outside-requires-3 returns)

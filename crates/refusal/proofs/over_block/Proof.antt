@@ -10,26 +10,12 @@ too-large-requires c κs = search needs
 too-large-requires-2 : tie.Need-too-large-requires-2
 too-large-requires-2 c κs = search needs
 
-either-requires : tie.Need-either-requires
-either-requires c κs = search needs
-
 too-large-requires-3 : tie.Need-too-large-requires-3
 too-large-requires-3 c κs = search needs
 
-either-requires-2 : tie.Need-either-requires-2
-either-requires-2 c κs = search needs
-
 returns : tie.Need-returns
 unfolding overBlock
-returns c = rw (c .either2 .ensures, c .before .too-large3 .ensures, c .before .before .either .ensures, c .before .before .before .too-large2 .ensures, c .before .before .before .before .too-large .ensures)
+returns c = rw (c .too-large3 .ensures, c .before .too-large2 .ensures, c .before .before .too-large .ensures)
 
 pub over-block-spec : {M : Type 1} → statement M
-over-block-spec =
-    tie.close
-    (tie.spec
-    too-large-requires
-    too-large-requires-2
-    either-requires
-    too-large-requires-3
-    either-requires-2
-    returns)
+over-block-spec = tie.close (tie.spec too-large-requires too-large-requires-2 too-large-requires-3 returns)

@@ -3,9 +3,6 @@ use borrow.Author.Needs.{needs}
 use Rattle.refusal.proofs.too_large.Statement.{statement}
 use Rattle.refusal.proofs.too_large.Tie as tie
 
-cast-result : tie.Need-cast-result
-cast-result c = search needs
-
 wide-product-requires : tie.Need-wide-product-requires
 wide-product-requires c κs = search needs
 
@@ -13,4 +10,4 @@ returns : tie.Need-returns
 returns c = rw (c .wide-product .ensures)
 
 pub too-large-spec : {M : Type 1} → statement M
-too-large-spec = tie.close (tie.spec cast-result wide-product-requires returns)
+too-large-spec = tie.close (tie.spec wide-product-requires returns)

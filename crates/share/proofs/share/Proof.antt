@@ -13,7 +13,7 @@ use Rattle.plan.proofs.Then.{then-refused, then-own, own-prime}
 use Rattle.share_side.specs.declared.Side.{Side}
 use Rattle.share_side.specs.Weights.{side}
 use Rattle.share.specs.Sharing.{point, shareOf, hostShare, ownTests, shareTests}
-use Rattle.share.proofs.Answers.{side-small, Passed, passed, refused, done}
+use Rattle.share.proofs.Outcomes.{side-small, Passed, passed, refused, done}
 use borrow.Author.Needs.{needs}
 use Rattle.share.proofs.share.Statement.{statement}
 use Rattle.share.proofs.share.Tie as tie

@@ -17,8 +17,8 @@ use lib.Dec.{T, eqb, ltb}
 use lib.ListN.{length}
 use borrow.Author.Tests.{ltb-false}
 use Rattle.algebra.proofs.Tests.{or-left, or-right, equal}
-use Rattle.refusal.specs.Chain.{first, answer}
-use Rattle.refusal.proofs.Chains.{first-clear, first-append, first-append-hit, answer-done, answer-refused, numbered, inside-low}
+use Rattle.refusal.specs.Chain.{first, outcome}
+use Rattle.refusal.proofs.Chains.{first-clear, first-append, first-append-hit, outcome-done, outcome-refused, numbered, inside-low}
 use Rattle.field.specs.Modulus.{noModulus}
 use Rattle.plan.specs.declared.Job.{Job}
 use Rattle.plan.specs.declared.Planned.the-variants.{Refused as Planned·Refused}
@@ -43,15 +43,15 @@ module _ (job : Job) (points : List ℕ) (heard : ℕ) (store message : List ℕ
   refused n ne e =
       let next = Taken (withPlace heard (place message)) in
       let after = withBlock (answerLength job) store (place message) (elements message) in (
-        sym (ap (λ (k : ℕ). answer k next Refused) e ∙ answer-refused next Refused n ne),
-        sym (ap (λ (k : ℕ). answer k after (λ m. store)) e ∙ answer-refused after (λ m. store) n ne),
+        sym (ap (λ (k : ℕ). outcome k next Refused) e ∙ outcome-refused next Refused n ne),
+        sym (ap (λ (k : ℕ). outcome k after (λ m. store)) e ∙ outcome-refused after (λ m. store) n ne),
       )
 
   pub done : {next : ℕ} {after : List ℕ} → first (arrivalTests job points heard (length store) message) ≡ 0 → next ≡ withPlace heard (place message)
       → after ≡ withBlock (answerLength job) store (place message) (elements message)
       → (Taken next ≡ arrived job points heard store message) × (after ≡ storeAfter job points heard store message)
   unfolding arrived storeAfter
-  done e bit block = (ap Taken bit ∙ sym (answer-done _ Refused _ e), block ∙ sym (answer-done _ (λ m. store) _ e))
+  done e bit block = (ap Taken bit ∙ sym (outcome-done _ Refused _ e), block ∙ sym (outcome-done _ (λ m. store) _ e))
 
   pub told-plan : {n : ℕ} → planned job points ≡ Planned·Refused n → (first (arrivalTests job points heard (length store) message) ≡ n) × (n ≡ 0 → ⊥)
   unfolding arrivalTests

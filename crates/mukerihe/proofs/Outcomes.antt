@@ -16,8 +16,8 @@ use lib.ListN.{length, take, drop, length-append, length-drop}
 use lib.Seq.{take-at, length-take-le}
 use borrow.Author.Tests.{eqb-true, eqb-false, eq-eqb, ne-eqb}
 use Rattle.algebra.proofs.Tests.{by-test, or-all, equal}
-use Rattle.refusal.specs.Chain.{first, answer}
-use Rattle.refusal.proofs.Chains.{first-clear, answer-done, answer-refused}
+use Rattle.refusal.specs.Chain.{first, outcome}
+use Rattle.refusal.proofs.Chains.{first-clear, outcome-done, outcome-refused}
 use Rattle.refusal.specs.Limits.{sizesOutside, overBlock}
 use Rattle.refusal.proofs.Limits.{within-all, blocks-fit}
 use Rattle.field.specs.Modulus.{modulus}
@@ -130,7 +130,7 @@ module _ (rows inner columns : ℕ) (a b : List ℕ) (room na nb nc : ℕ) (ca :
       pub refused : (r ≡ 0 → ⊥) → (r ≡ first (hostTests n rows inner columns a b (length out))) × (out ≡ hostAfter n rows inner columns a b out)
       unfolding hostAfter
       refused ne =
-          (number-is, sym (ap (λ (k : ℕ). answer k (hostProduct n rows inner columns a b) (λ s. out)) (sym number-is) ∙ answer-refused (hostProduct n rows inner columns a b) (λ s. out) r ne))
+          (number-is, sym (ap (λ (k : ℕ). outcome k (hostProduct n rows inner columns a b) (λ s. out)) (sym number-is) ∙ outcome-refused (hostProduct n rows inner columns a b) (λ s. out) r ne))
 
       module _ (zero : r ≡ 0) where
         clear : first (hostTests n rows inner columns a b room) ≡ 0
@@ -152,7 +152,7 @@ module _ (rows inner columns : ℕ) (a b : List ℕ) (room na nb nc : ℕ) (ca :
             ≡ productOf (modulus n) rows inner columns (elementsOf (rows * inner) a) (elementsOf (inner * columns) b)
         unfolding productAfter counted
         product-is =
-            answer-done (productOf (modulus n) rows inner columns (take na left) (take nb right)) (λ s. take nc block) _ (sym told ∙ zero)
+            outcome-done (productOf (modulus n) rows inner columns (take na left) (take nb right)) (λ s. take nc block) _ (sym told ∙ zero)
             ∙ ap₂ (λ (l m : List ℕ). productOf (modulus n) rows inner columns (take na l) (take nb m)) is-left is-right
             ∙ ap₂ (productOf (modulus n) rows inner columns) (left-exact size over len olda oldb sa sb) (right-exact size over len olda oldb sa sb)
 
@@ -172,5 +172,5 @@ module _ (rows inner columns : ℕ) (a b : List ℕ) (room na nb nc : ℕ) (ca :
               (e ∙ ap (λ (xs : List ℕ). bytesOf (take (common out xs) xs) ++ drop (common out xs * 4) out) front
                   ∙ written-exact out answered fits
                   ∙ ap bytesOf (is ∙ product-is)
-                  ∙ sym (answer-done (hostProduct n rows inner columns a b) (λ s. out) _ (sym number-is ∙ zero))),
+                  ∙ sym (outcome-done (hostProduct n rows inner columns a b) (λ s. out) _ (sym number-is ∙ zero))),
             )

@@ -8,27 +8,27 @@ use mathlib.Core.Path.{_≡_, refl, sym, ap, _∙_}
 use mathlib.Core.List.{[]}
 use Prim.Native.Nat.{ℕ, zero, suc}
 use native.Mathlib.Nat.{suc-ne-zero}
-use Rattle.refusal.specs.Chain.{answer, done}
-use Rattle.refusal.proofs.Chains.{answer-done, answer-refused}
+use Rattle.refusal.specs.Chain.{outcome, done}
+use Rattle.refusal.proofs.Chains.{outcome-done, outcome-refused}
 use Rattle.message_header.specs.declared.Header.{Header}
 use Rattle.message_header.specs.declared.Reading.{Reading}
 use Rattle.message_header.specs.declared.Reading.the-variants.{Done, Refused}
 use Rattle.message_header.specs.Header.{fields, told}
 
 module _ (h : Header) (number : ℕ) where
-  pub done-by : {k : Header} → k ≡ h → number ≡ 0 → Done k ≡ answer number (Done h) Refused
-  done-by same e = ap Done same ∙ sym (answer-done (Done h) Refused number e)
+  pub done-by : {k : Header} → k ≡ h → number ≡ 0 → Done k ≡ outcome number (Done h) Refused
+  done-by same e = ap Done same ∙ sym (outcome-done (Done h) Refused number e)
 
-  pub refused-by : (n : ℕ) → (n ≡ 0 → ⊥) → number ≡ n → Refused n ≡ answer number (Done h) Refused
-  refused-by n ne e = sym (ap (λ (k : ℕ). answer k (Done h) Refused) e ∙ answer-refused (Done h) Refused n ne)
+  pub refused-by : (n : ℕ) → (n ≡ 0 → ⊥) → number ≡ n → Refused n ≡ outcome number (Done h) Refused
+  refused-by n ne e = sym (ap (λ (k : ℕ). outcome k (Done h) Refused) e ∙ outcome-refused (Done h) Refused n ne)
 
-pub done-told : (h : Header) (number : ℕ) {k : Header} → answer number (Done h) Refused ≡ Done k → (number ≡ 0) × (k ≡ h)
-unfolding answer
+pub done-told : (h : Header) (number : ℕ) {k : Header} → outcome number (Done h) Refused ≡ Done k → (number ≡ 0) × (k ≡ h)
+unfolding outcome
 done-told h zero e = (refl, cc)
 done-told h (suc n) e = let z : _≡_ {A = ℕ} 1 0 = cc in absurd (suc-ne-zero 0 z)
 
-pub refused-told : (h : Header) (number : ℕ) {n : ℕ} → answer number (Done h) Refused ≡ Refused n → (number ≡ n) × (n ≡ 0 → ⊥)
-unfolding answer
+pub refused-told : (h : Header) (number : ℕ) {n : ℕ} → outcome number (Done h) Refused ≡ Refused n → (number ≡ n) × (n ≡ 0 → ⊥)
+unfolding outcome
 refused-told h zero e = let z : _≡_ {A = ℕ} 1 0 = cc in absurd (suc-ne-zero 0 z)
 refused-told h (suc k) {n} e = let same : suc k ≡ n = cc in (same, λ z. suc-ne-zero k (same ∙ z))
 

@@ -16,40 +16,40 @@ use native.Mathlib.Omega.{arith}
 use lib.Dec.{ltb}
 use lib.IntN.{ℤ}
 use borrow.Author.Tests.{lt-ltb, le-ltb}
-use Rattle.refusal.specs.Chain.{first, answer, Told, done, refused}
-use Rattle.refusal.proofs.Chains.{first-hit, first-miss, answer-map, told-number}
+use Rattle.refusal.specs.Chain.{first, outcome, Told, done, refused}
+use Rattle.refusal.proofs.Chains.{first-hit, first-miss, outcome-map, told-number}
 use Rattle.field_signed.specs.declared.Signed.{Signed}
 use Rattle.field_signed.specs.declared.Element.{Element}
 use Rattle.field.specs.Modulus.{modulus, noModulus}
-use Rattle.field_signed.specs.Signed.{signed, inRange, element, signedTests, elementTests, signedAnswer, elementAnswer, signedTold, elementTold}
+use Rattle.field_signed.specs.Signed.{signed, inRange, element, signedTests, elementTests, signedOutcome, elementOutcome, signedTold, elementTold}
 use Rattle.field_signed.specs.Readings.{ThereAndBack, BackAndThere, SignedReading}
 use Rattle.field.proofs.Moduli.{Known, known-number}
 use Rattle.field_signed.proofs.Readings.{element-below, element-signed, signed-element, signed-in-range}
 
-pub signed-told : (number v : ℕ) → signedTold (signedAnswer number v) ≡ answer (first (signedTests number v)) (done (signed (modulus number) v ∷ [])) refused
-unfolding signedTold signedAnswer
-signed-told number v = answer-map signedTold (Signed.Value (signed (modulus number) v)) Signed.Refused (first (signedTests number v))
+pub signed-told : (number v : ℕ) → signedTold (signedOutcome number v) ≡ outcome (first (signedTests number v)) (done (signed (modulus number) v ∷ [])) refused
+unfolding signedTold signedOutcome
+signed-told number v = outcome-map signedTold (Signed.Value (signed (modulus number) v)) Signed.Refused (first (signedTests number v))
 
-pub element-told : (number : ℕ) (z : ℤ) → elementTold (elementAnswer number z) ≡ answer (first (elementTests number z)) (done (element (modulus number) z ∷ [])) refused
-unfolding elementTold elementAnswer
-element-told number z = answer-map elementTold (Element.Value (element (modulus number) z)) Element.Refused (first (elementTests number z))
+pub element-told : (number : ℕ) (z : ℤ) → elementTold (elementOutcome number z) ≡ outcome (first (elementTests number z)) (done (element (modulus number) z ∷ [])) refused
+unfolding elementTold elementOutcome
+element-told number z = outcome-map elementTold (Element.Value (element (modulus number) z)) Element.Refused (first (elementTests number z))
 
-pub signed-number : (number v : ℕ) → signedTold (signedAnswer number v) .number ≡ first (signedTests number v)
+pub signed-number : (number v : ℕ) → signedTold (signedOutcome number v) .number ≡ first (signedTests number v)
 signed-number number v = ap (λ (t : Told ℤ). t .number) (signed-told number v) ∙ told-number (signed (modulus number) v ∷ []) (first (signedTests number v))
 
-pub element-number : (number : ℕ) (z : ℤ) → elementTold (elementAnswer number z) .number ≡ first (elementTests number z)
+pub element-number : (number : ℕ) (z : ℤ) → elementTold (elementOutcome number z) .number ≡ first (elementTests number z)
 element-number number z = ap (λ (t : Told ℕ). t .number) (element-told number z) ∙ told-number (element (modulus number) z ∷ []) (first (elementTests number z))
 
-pub signed-unknown : (number v : ℕ) → noModulus number ≡ true → signedAnswer number v ≡ Signed.Refused 1
-unfolding signedAnswer signedTests answer
+pub signed-unknown : (number v : ℕ) → noModulus number ≡ true → signedOutcome number v ≡ Signed.Refused 1
+unfolding signedOutcome signedTests outcome
 signed-unknown number v e =
-    ap (λ (n : ℕ). answer n (Signed.Value (signed (modulus number) v)) Signed.Refused)
+    ap (λ (n : ℕ). outcome n (Signed.Value (signed (modulus number) v)) Signed.Refused)
     (first-hit (noModulus number) 1 ((not (ltb v (modulus number)), 14) ∷ []) e)
 
-pub element-unknown : (number : ℕ) (z : ℤ) → noModulus number ≡ true → elementAnswer number z ≡ Element.Refused 1
-unfolding elementAnswer elementTests answer
+pub element-unknown : (number : ℕ) (z : ℤ) → noModulus number ≡ true → elementOutcome number z ≡ Element.Refused 1
+unfolding elementOutcome elementTests outcome
 element-unknown number z e =
-    ap (λ (n : ℕ). answer n (Element.Value (element (modulus number) z)) Element.Refused)
+    ap (λ (n : ℕ). outcome n (Element.Value (element (modulus number) z)) Element.Refused)
     (first-hit (noModulus number) 1 ((not (inRange (modulus number) z), 25) ∷ []) e)
 
 module _ {number q : ℕ} (k : Known number q) where
@@ -59,28 +59,28 @@ module _ {number q : ℕ} (k : Known number q) where
       first-miss (noModulus number) 1 ((test (modulus number), n) ∷ []) (k .is-number)
       ∙ ap (λ (t : Bool). first ((t, n) ∷ [])) (ap test (k .is) ∙ e)
 
-  pub signed-above : (v : ℕ) → q ≤ v → signedAnswer number v ≡ Signed.Refused 14
-  unfolding signedAnswer signedTests answer first
+  pub signed-above : (v : ℕ) → q ≤ v → signedOutcome number v ≡ Signed.Refused 14
+  unfolding signedOutcome signedTests outcome first
   signed-above v l =
-      ap (λ (n : ℕ). answer n (Signed.Value (signed (modulus number) v)) Signed.Refused)
+      ap (λ (n : ℕ). outcome n (Signed.Value (signed (modulus number) v)) Signed.Refused)
       (second 14 (λ p. not (ltb v p)) (ap not (le-ltb v q l)))
 
-  pub signed-value : (v : ℕ) → v < q → signedAnswer number v ≡ Signed.Value (signed q v)
-  unfolding signedAnswer signedTests answer first
+  pub signed-value : (v : ℕ) → v < q → signedOutcome number v ≡ Signed.Value (signed q v)
+  unfolding signedOutcome signedTests outcome first
   signed-value v l =
-      ap₂ (λ (n p : ℕ). answer n (Signed.Value (signed p v)) Signed.Refused)
+      ap₂ (λ (n p : ℕ). outcome n (Signed.Value (signed p v)) Signed.Refused)
       (second 14 (λ p. not (ltb v p)) (ap not (lt-ltb v q l))) (k .is)
 
-  pub element-outside : (z : ℤ) → inRange q z ≡ false → elementAnswer number z ≡ Element.Refused 25
-  unfolding elementAnswer elementTests answer first
+  pub element-outside : (z : ℤ) → inRange q z ≡ false → elementOutcome number z ≡ Element.Refused 25
+  unfolding elementOutcome elementTests outcome first
   element-outside z e =
-      ap (λ (n : ℕ). answer n (Element.Value (element (modulus number) z)) Element.Refused)
+      ap (λ (n : ℕ). outcome n (Element.Value (element (modulus number) z)) Element.Refused)
       (second 25 (λ p. not (inRange p z)) (ap not e))
 
-  pub element-value : (z : ℤ) → inRange q z ≡ true → elementAnswer number z ≡ Element.Value (element q z)
-  unfolding elementAnswer elementTests answer first
+  pub element-value : (z : ℤ) → inRange q z ≡ true → elementOutcome number z ≡ Element.Value (element q z)
+  unfolding elementOutcome elementTests outcome first
   element-value z e =
-      ap₂ (λ (n p : ℕ). answer n (Element.Value (element p z)) Element.Refused)
+      ap₂ (λ (n p : ℕ). outcome n (Element.Value (element p z)) Element.Refused)
       (second 25 (λ p. not (inRange p z)) (ap not e)) (k .is)
 
 module _ (n : ℕ) (e : noModulus n ≡ false) where

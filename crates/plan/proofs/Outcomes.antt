@@ -12,8 +12,8 @@ use mathlib.Core.Path.{_≡_, sym, ap, ap₂, _∙_}
 use mathlib.Core.Bool.{true, false}
 use mathlib.Core.List.{List, _++_}
 use Prim.Native.Nat.{ℕ, _/_}
-use Rattle.refusal.specs.Chain.{first, answer, done, refused as Chain·refused}
-use Rattle.refusal.proofs.Chains.{first-hit, first-miss, first-append, first-append-hit, answer-done, answer-refused, answer-map, numbered}
+use Rattle.refusal.specs.Chain.{first, outcome, done, refused as Chain·refused}
+use Rattle.refusal.proofs.Chains.{first-hit, first-miss, first-append, first-append-hit, outcome-done, outcome-refused, outcome-map, numbered}
 use Rattle.field.specs.declared.Modulus.{Modulus}
 use Rattle.field.specs.declared.Named.the-variants.{Is}
 use Rattle.field.specs.Modulus.{noModulus, named}
@@ -51,7 +51,7 @@ module _ (job : Job) (points : List ℕ) where
 
   pub refused : (n : ℕ) → (n ≡ 0 → ⊥) → first (planTests job points) ≡ n → Refused n ≡ planned job points
   unfolding planned
-  refused n ne e = sym (ap (λ (k : ℕ). answer k (Accepted (planOf job)) Refused) e ∙ answer-refused (Accepted (planOf job)) Refused n ne)
+  refused n ne e = sym (ap (λ (k : ℕ). outcome k (Accepted (planOf job)) Refused) e ∙ outcome-refused (Accepted (planOf job)) Refused n ne)
 
 module _ (job : Job) (g : Parameters) (same : g ≡ parameters job) (layout : Layout) (chosen : layout ≡ choice g) where
   pub layout-is : layout ≡ layoutOf job
@@ -69,8 +69,8 @@ pub accepted : (job : Job) (points : List ℕ) (m : Modulus) (layout : Layout) (
 unfolding planned planOf modulusOf blockRows blockInner blockColumns
 accepted job points m layout g needed is l same k e =
     ap Accepted (λ i. record { modulus = ap known (sym is) i; layout = l i; parameters = same i; rows = blockRows job; inner = blockInner job; columns = blockColumns job; needed = k i })
-    ∙ sym (answer-done (Accepted (planOf job)) Refused (first (planTests job points)) e)
+    ∙ sym (outcome-done (Accepted (planOf job)) Refused (first (planTests job points)) e)
 
-pub plan-told : (job : Job) (points : List ℕ) → told (planned job points) ≡ answer (first (planTests job points)) (done (planValues job)) Chain·refused
+pub plan-told : (job : Job) (points : List ℕ) → told (planned job points) ≡ outcome (first (planTests job points)) (done (planValues job)) Chain·refused
 unfolding planned planOf planValues
-plan-told job points = answer-map told (Accepted (planOf job)) Refused (first (planTests job points))
+plan-told job points = outcome-map told (Accepted (planOf job)) Refused (first (planTests job points))

@@ -12,8 +12,8 @@ use lib.ListN.{length}
 use borrow.Author.Tests.{not-false}
 use Rattle.algebra.specs.Lists.{AllBelow, allBelow}
 use Rattle.algebra.proofs.Lists.{all-below-test}
-use Rattle.refusal.specs.Chain.{first, answer, outside}
-use Rattle.refusal.proofs.Chains.{first-clear, answer-done, answer-refused, inside-low, inside-high}
+use Rattle.refusal.specs.Chain.{first, outcome, outside}
+use Rattle.refusal.proofs.Chains.{first-clear, outcome-done, outcome-refused, inside-low, inside-high}
 use Rattle.plan.specs.declared.Job.{Job}
 use Rattle.plan.specs.Planning.{parameters, planOf}
 use Rattle.plan.proofs.Facts.{Fits}
@@ -67,11 +67,11 @@ module _ (m : Matrix) (job : Job) (points : List ℕ) (host : ℕ) (xs ms out : 
   refused k ne e = (
     sym e,
     sym
-        (ap (λ (r : ℕ). answer r (hostShare m job points host xs ms) (λ s. out)) e
-        ∙ answer-refused (hostShare m job points host xs ms) (λ s. out) k ne),
+        (ap (λ (r : ℕ). outcome r (hostShare m job points host xs ms) (λ s. out)) e
+        ∙ outcome-refused (hostShare m job points host xs ms) (λ s. out) k ne),
   )
 
   pub done : first (shareTests m job points host xs ms (length out)) ≡ 0 → (after : List ℕ) → after ≡ hostShare m job points host xs ms
       → (0 ≡ first (shareTests m job points host xs ms (length out))) × (after ≡ shareAfter m job points host xs ms out)
   unfolding shareAfter
-  done e after is = (sym e, is ∙ sym (answer-done (hostShare m job points host xs ms) (λ s. out) _ e))
+  done e after is = (sym e, is ∙ sym (outcome-done (hostShare m job points host xs ms) (λ s. out) _ e))

@@ -15,9 +15,9 @@ use borrow.Author.Tests.{not-false}
 use Rattle.algebra.specs.Lists.{allBelow}
 use Rattle.algebra.proofs.Lists.{all-below-test}
 use Rattle.algebra.proofs.Tests.{or-left, or-right, or-all, equal}
-use Rattle.refusal.specs.Chain.{first, answer}
+use Rattle.refusal.specs.Chain.{first, outcome}
 use Rattle.refusal.specs.Limits.{sizesOutside, overBlock}
-use Rattle.refusal.proofs.Chains.{answer-done, answer-refused}
+use Rattle.refusal.proofs.Chains.{outcome-done, outcome-refused}
 use Rattle.refusal.proofs.Limits.{within-all, blocks-fit}
 use Rattle.field.specs.Modulus.{modulus}
 use Rattle.product.specs.Product.{productOf, lengthTest, productTests, productAfter}
@@ -34,12 +34,12 @@ module _ (n rows inner columns : ℕ) (a b out : List ℕ) where
       → (k ≡ first (productTests n rows inner columns a b (length out))) × (out ≡ productAfter n rows inner columns a b out)
   unfolding productAfter number block
   refused k ne e =
-      (sym e, sym (ap (λ (r : ℕ). answer r block (λ s. out)) e ∙ answer-refused block (λ s. out) k ne))
+      (sym e, sym (ap (λ (r : ℕ). outcome r block (λ s. out)) e ∙ outcome-refused block (λ s. out) k ne))
 
   pub done : first (productTests n rows inner columns a b (length out)) ≡ 0 → (after : List ℕ) → after ≡ productOf (modulus n) rows inner columns a b
       → (0 ≡ first (productTests n rows inner columns a b (length out))) × (after ≡ productAfter n rows inner columns a b out)
   unfolding productAfter number block
-  done e after is = (sym e, is ∙ sym (answer-done block (λ s. out) number e))
+  done e after is = (sym e, is ∙ sym (outcome-done block (λ s. out) number e))
 
 pub ready : (q rows inner columns : ℕ) (a b : List ℕ) (room : ℕ) → sizesOutside rows inner columns ≡ false → overBlock rows inner columns ≡ false
     → lengthTest rows inner columns (length a) (length b) room ≡ false → (not (allBelow q a) || not (allBelow q b)) ≡ false → Ready q rows inner columns a b room

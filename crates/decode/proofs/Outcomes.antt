@@ -28,8 +28,8 @@ use Rattle.algebra.proofs.Tests.{or-left, or-right, equal, alike}
 use Rattle.algebra.proofs.Lists.{below-anywhere}
 use Rattle.algebra.proofs.Grids.{grid-cong}
 use Rattle.algebra.proofs.Places.{pointsAt}
-use Rattle.refusal.specs.Chain.{first, answer}
-use Rattle.refusal.proofs.Chains.{first-clear, first-append-clear, answer-done, answer-refused, inside}
+use Rattle.refusal.specs.Chain.{first, outcome}
+use Rattle.refusal.proofs.Chains.{first-clear, first-append-clear, outcome-done, outcome-refused, inside}
 use Rattle.field.specs.Modulus.{prime as Modulus·prime}
 use Rattle.decode_table.specs.declared.Shape.{Shape}
 use Rattle.decode_table.specs.Pieces.{blockCount, blockLength, pieceCount, pieceSum, piecesOf, sizesTest, misfit, tableAfter as Pieces·tableAfter, Sized}
@@ -91,14 +91,14 @@ module _ (job : Job) (points : List ℕ) (heard : ℕ) (store table : List ℕ) 
   refused k ne e = (
     sym e,
     sym
-        (ap (λ (r : ℕ). answer r (tableOf job points heard store) (λ n. table)) e
-        ∙ answer-refused (tableOf job points heard store) (λ n. table) k ne),
+        (ap (λ (r : ℕ). outcome r (tableOf job points heard store) (λ n. table)) e
+        ∙ outcome-refused (tableOf job points heard store) (λ n. table) k ne),
   )
 
   pub done : first (decodeTests job points heard store (length table)) ≡ 0 → (after : List ℕ) → after ≡ tableOf job points heard store
       → (0 ≡ first (decodeTests job points heard store (length table))) × (after ≡ tableAfter job points heard store table)
   unfolding tableAfter
-  done e after is = (sym e, is ∙ sym (answer-done (tableOf job points heard store) (λ n. table) _ e))
+  done e after is = (sym e, is ∙ sym (outcome-done (tableOf job points heard store) (λ n. table) _ e))
 
 pub record Passed (job : Job) (heard : ℕ) (store : List ℕ) (room : ℕ) : Type 0 where
   pub none-above : heard < 2 ^ job .hosts
