@@ -10,11 +10,11 @@ ghost use Rattle.layout.specs.Exponents.{exponents};
 ghost use Rattle.share_side.specs.Weights.{Small, weightCount, weightsOf};
 ghost use Rattle.share_blocks.specs.Encoding.{blockLength, matrixLength, maskLength, lengthTest};
 ghost use Rattle.share.specs.Sharing.{shareOf, ownTests, shareTests, shareAfter};
-use share_blocks::MOST_WEIGHTS;
 use field::Modulus;
 use plan::Job;
 use plan::Plan;
 use plan::Planned;
+use share_blocks::MOST_WEIGHTS;
 use share_side::Matrix;
 use share_side::Side;
 

@@ -1,11 +1,11 @@
--- `test_groups::place_points` meets its contract.
+-- `test_groups::set_points` meets its contract.
 use mathlib.Core.Path.{_≡_}
 use Prim.Native.Nat.{_+_, _*_, _-_, _≤_}
 use native.Mathlib.Omega.{arith}
 use lib.ListN.{length, length-set}
 use borrow.Author.Needs.{needs}
-use Rattle.test_groups.proofs.place_points.Statement.{statement}
-use Rattle.test_groups.proofs.place_points.Tie as tie
+use Rattle.test_groups.proofs.set_points.Statement.{statement}
+use Rattle.test_groups.proofs.set_points.Tie as tie
 
 abbrev Inv-loop : tie.InvT-loop
 Inv-loop out₀ x₀ i₀ out x i = record { same : length out ≡ length out₀; small : x ≤ 3 + 7 * i }
@@ -40,8 +40,8 @@ same-length c = search needs
 returns : tie.Need-returns Inv-loop μ-loop
 returns c = search needs
 
-pub place-points-spec : {M : Type 1} → statement M
-place-points-spec =
+pub set-points-spec : {M : Type 1} → statement M
+set-points-spec =
     tie.close
     (tie.spec
     Inv-loop
