@@ -10,8 +10,8 @@ ghost use Rattle.arrival.specs.Arriving.{arrived, storeAfter, numberOf, heardAf
 ghost use Rattle.decode.specs.Decoding.{decodeTests, tableAfter};
 ghost use Rattle.bench_stages.specs.Stages.{jobOf, headerOf, matrixOf, neededAfter};
 use arrival::Arrived;
-use message_header::Header;
 use message::Parsed;
+use message_header::Header;
 use plan::Job;
 use plan::Planned;
 use share::Matrix;

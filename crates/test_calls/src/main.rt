@@ -8,8 +8,8 @@ ghost use Rattle.io.specs.Counts.{Counts};
 use field_signed::Element;
 use field_signed::Signed;
 use libc::STDOUT_FILENO;
-use message_header::Header;
 use message::Parsed;
+use message_header::Header;
 use plan::Job;
 use share::Matrix;
 
