@@ -14,7 +14,7 @@ use lib.ListN.{length, take, drop, length-append}
 use lib.Seq.{take-length, drop-drop, paste, length-paste, take-paste, drop-paste}
 use borrow.Author.Tests.{le-leb, lt-leb}
 use Rattle.algebra.proofs.Orders.{le-or-lt}
-use Rattle.text.specs.Decimal.{fits, put, after}
+use Rattle.text.specs.Contracts.{fits, put, after}
 
 module _ (buffer : List ℕ) (at : ℕ) (bytes : List ℕ) where
   pub put-fits : at + length bytes ≤ length buffer → put buffer at bytes ≡ paste buffer at bytes (length bytes)
