@@ -1,4 +1,4 @@
--- The lister's text always has room in 4096 bytes.
+-- The lister's text always has room.
 --
 --   row-length, grid-length    each value takes at most six bytes
 --   refused-room               the line of a refusal
@@ -26,7 +26,7 @@ use Rattle.plan.proofs.Facts.{Fits, facts}
 use Rattle.text.specs.Decimal.{decimal}
 use Rattle.text.proofs.Decimals.{decimal-length, decimal-short}
 use Rattle.lister_line.specs.Line.{lineOf}
-use Rattle.lister.specs.Listing.{ascii, value, values, line, sideLine, numberLines, aLine, bLine, cLine, planText, refusedText, jobOf, told, reply, listing}
+use Rattle.lister.specs.Listing.{ascii, value, values, line, sideLine, numberLines, aLine, bLine, cLine, planText, refusedText, jobOf, replyText, reply, listing, listingRoom}
 use Rattle.lister.proofs.Writes.{row-more, grid-more, line-one}
 
 value-length : (n : ℕ) → n < 100000 → length (value n) ≤ 6
@@ -71,7 +71,7 @@ one-length label n =
       decimal-length n,
     )
 
-refused-room : (n : ℕ) → length (refusedText n) ≤ 4096
+refused-room : (n : ℕ) → length (refusedText n) ≤ listingRoom
 unfolding refusedText
 refused-room n = omega (arith, one-length (ascii "REFUSED") n)
 
@@ -168,7 +168,7 @@ module _ (job : Job) (fits : Fits job) where
         one-length (ascii "NEEDED") (neededOf job),
       )
 
-  plan-room : length (planText (job .hosts) (planOf job)) ≤ 4096
+  plan-room : length (planText (job .hosts) (planOf job)) ≤ listingRoom
   unfolding planText planOf g
   plan-room =
       let n = numberLines (job .hosts) (planOf job) in
@@ -177,18 +177,18 @@ module _ (job : Job) (fits : Fits job) where
       let c = cLine (layoutOf job) g in
       omega (arith, length-append n (a ++ (b ++ c)), length-append a (b ++ c), length-append b c, number-room, a-room, b-room, c-room)
 
-reply-room : (job : Job) → length (reply job) ≤ 4096
-unfolding reply told planned outcome
+reply-room : (job : Job) → length (reply job) ≤ listingRoom
+unfolding reply replyText planned outcome
 reply-room job = go (first (planTests job (tab suc (job .hosts)))) refl
   where
-    go : (n : ℕ) → first (planTests job (tab suc (job .hosts))) ≡ n → length (told (job .hosts) (outcome n (Accepted (planOf job)) Refused)) ≤ 4096
+    go : (n : ℕ) → first (planTests job (tab suc (job .hosts))) ≡ n → length (replyText (job .hosts) (outcome n (Accepted (planOf job)) Refused)) ≤ listingRoom
     go zero e = plan-room job (facts job (tab suc (job .hosts)) e .fits)
     go (suc n) e = refused-room (suc n)
 
-pub room : (input : List ℕ) → length (listing input) ≤ 4096
+pub room : (input : List ℕ) → length (listing input) ≤ listingRoom
 unfolding listing
 room input = go (lineOf input .ok)
   where
-    go : (b : Bool) → length (cond b (reply (jobOf (lineOf input .numbers))) (refusedText 26)) ≤ 4096
+    go : (b : Bool) → length (cond b (reply (jobOf (lineOf input .numbers))) (refusedText 26)) ≤ listingRoom
     go true = reply-room (jobOf (lineOf input .numbers))
     go false = refused-room 26

@@ -15,8 +15,8 @@ use lib.ListN.{length, getD, take, drop, set, take-append-drop, length-append, l
 use lib.Seq.{length-take-le, take-suc-set, drop-set-lt, drop-drop}
 use borrow.Author.Tests.{le-leb, lt-leb}
 use Rattle.text_numbers.specs.declared.Part.{Part}
-use Rattle.text_numbers.specs.declared.Numbers.{Numbers}
-use Rattle.text_numbers.specs.Numbers.{apart, fits, after, ends, ended, taken, reached, found, closed, reach, numbersOf, answer, front}
+use Rattle.text_numbers.specs.declared.ReadOutcome.{ReadOutcome}
+use Rattle.text_numbers.specs.Numbers.{apart, fits, after, ends, ended, taken, reached, found, closed, reach, numbersOf, readOutcome, front}
 use Rattle.text_numbers.proofs.Texts.{closed-byte}
 use Rattle.text_numbers.proofs.Steps.{ended-one, ended-none, taken-one, taken-none, reached-on, found-on, reached-off, found-off}
 
@@ -49,8 +49,8 @@ module _ {text out₀ out : List ℕ} {part : Part} {n i : ℕ} (r : Read-on tex
   whole e = rw (e, many) (sym (ap (λ (xs : List ℕ). take n out ++ xs) (sym (r .old)) ∙ take-append-drop n out))
 
   pub read-all : i ≡ length text + 1
-      → (Numbers.Read n ≡ answer text (length out₀)) × (out ≡ front (numbersOf text (length out₀)) out₀)
-  unfolding answer closed reached found
+      → (ReadOutcome.Read n ≡ readOutcome text (length out₀)) × (out ≡ front (numbersOf text (length out₀)) out₀)
+  unfolding readOutcome closed reached found
   read-all e =
       let past : drop i (closed text) ≡ [] = drop-of-length-le (closed text) {i = i} (omega (arith, length-append text (10 ∷ []))) in
       let here : reach text (length out₀) ≡ i = r .to ∙ rw past (omega arith) in
@@ -113,8 +113,8 @@ module _ {text out₀ out : List ℕ} {part : Part} {n i : ℕ} (r : Read-on tex
       }
 
   pub read-fault : taken part (length out₀ - n) b ≡ false
-      → (Numbers.Fault i ≡ answer text (length out₀)) × (out ≡ front (numbersOf text (length out₀)) out₀)
-  unfolding answer left
+      → (ReadOutcome.Fault i ≡ readOutcome text (length out₀)) × (out ≡ front (numbersOf text (length out₀)) out₀)
+  unfolding readOutcome left
   read-fault off =
       let here : reach text (length out₀) ≡ i = r .to ∙ rw (bytes, reached-off part left b rest off) (omega arith) in
       let these : numbersOf text (length out₀) ≡ take n out = r .numbers ∙ rw (bytes, found-off part left b rest off) (append-nil (take n out)) in

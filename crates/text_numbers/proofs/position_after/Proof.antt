@@ -1,9 +1,9 @@
--- `text_numbers::place_after` meets its contract.
+-- `text_numbers::position_after` meets its contract.
 use mathlib.Core.Path.{sym, _∙_}
 use borrow.Author.Needs.{needs}
-use Rattle.text_numbers.proofs.Places.{moved-feed, moved-end, moved-other}
-use Rattle.text_numbers.proofs.place_after.Statement.{statement}
-use Rattle.text_numbers.proofs.place_after.Tie as tie
+use Rattle.text_numbers.proofs.Positions.{moved-feed, moved-end, moved-other}
+use Rattle.text_numbers.proofs.position_after.Statement.{statement}
+use Rattle.text_numbers.proofs.position_after.Tie as tie
 
 is-paired-requires : tie.Need-is-paired-requires
 is-paired-requires c κs = search needs
@@ -32,6 +32,6 @@ returns-3 c =
     let p = e .before in
     sym (moved-other _ _ _ (sym (p .before .is-paired .ensures) ∙ p .if1 .left) (sym (e .ends-line .ensures) ∙ c .before .if2 .left))
 
-pub place-after-spec : {M : Type 1} → statement M
-place-after-spec =
+pub position-after-spec : {M : Type 1} → statement M
+position-after-spec =
     tie.close (tie.spec is-paired-requires returns ends-line-requires add-t6 returns-2 add-t7 returns-3)
