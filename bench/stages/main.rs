@@ -18,7 +18,7 @@ mod cases;
 mod library;
 mod race;
 #[allow(dead_code)]
-#[path = "../../docs/src/random.rs"]
+#[path = "../../docs/src/sheet/random.rs"]
 mod random;
 mod report;
 mod stage;
