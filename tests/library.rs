@@ -103,9 +103,9 @@ fn due(call: &Call) -> Result<Vec<u8>, u32> {
             .sum();
         (sum % u64::from(q)) as u32
     };
-    let places = (0..rows).flat_map(|i| (0..columns).map(move |j| (i, j)));
+    let cells = (0..rows).flat_map(|i| (0..columns).map(move |j| (i, j)));
     Ok(bytes(
-        &places.map(|(i, j)| entry(i, j)).collect::<Vec<u32>>(),
+        &cells.map(|(i, j)| entry(i, j)).collect::<Vec<u32>>(),
     ))
 }
 
@@ -118,8 +118,8 @@ fn compare(random: &mut Random, round: u32, call: &Call) -> u32 {
     let number = run(call, &mut room[GUARD..GUARD + call.out_length]);
     let mut after = before;
     let expected = due(call);
-    if let Ok(answer) = &expected {
-        after[GUARD..GUARD + call.out_length].copy_from_slice(answer);
+    if let Ok(product) = &expected {
+        after[GUARD..GUARD + call.out_length].copy_from_slice(product);
     }
     assert_eq!(
         number,
@@ -195,17 +195,17 @@ fn drawn(random: &mut Random, round: u32) -> Call {
 
 /// Spoils one thing in a call, by chance; some changes leave it fit.
 fn spoil(random: &mut Random, call: &mut Call) {
-    let place = random.index(3);
+    let which = random.index(3);
     match random.within(0, 6) {
         0 => call.modulus = [0, 4, 257, u32::MAX][random.index(4)],
-        1 => call.sizes[place] = [0, 16385, 65536, u32::MAX][random.index(4)],
-        2 => call.sizes[place] = random.within(1, 16384),
+        1 => call.sizes[which] = [0, 16385, 65536, u32::MAX][random.index(4)],
+        2 => call.sizes[which] = random.within(1, 16384),
         3 => call.out_length = other_length(random, call.out_length),
         4 => spoil_length(random, &mut call.a),
         5 => spoil_length(random, &mut call.b),
         _ => {
             let q = prime(call.modulus).unwrap_or(13);
-            let share = if place == 0 { &mut call.a } else { &mut call.b };
+            let share = if which == 0 { &mut call.a } else { &mut call.b };
             spoil_element(random, share, q);
         }
     }
@@ -230,7 +230,7 @@ fn spoil_length(random: &mut Random, share: &mut Vec<u8>) {
     share.resize(length, 0);
 }
 
-/// Puts q - 1, q, 2^32 - 1 or any word in the place of the first element, the last or any other.
+/// Puts q - 1, q, 2^32 - 1 or any word over the first element, the last or any other.
 fn spoil_element(random: &mut Random, share: &mut [u8], q: u32) {
     let count = share.len() / 4;
     if count > 0 {

@@ -1,5 +1,5 @@
 /* Tries the host's library from outside: random modulus numbers, sizes and lengths, right and wrong, in buffers that end at a
- * page which nobody may touch, or begin right after one. A read or a write past a buffer ends the program. The answer must be
+ * page which nobody may touch, or begin right after one. A read or a write past a buffer ends the program. The outcome must be
  * the refusal number that the job sheet gives, with no byte of the output changed, or the big-endian product.
  *
  *   buffer_of     a buffer of a length beside a forbidden page
@@ -181,7 +181,7 @@ static const struct {
 static int below_floors(const uint32_t *counts)
 {
     int fewer = 0;
-    printf("host_trials: %d calls; of each number", TRIALS);
+    printf("library_trials: %d calls; of each number", TRIALS);
     for (size_t i = 0; i < sizeof floors / sizeof floors[0]; i++) {
         uint32_t count = counts[floors[i].number];
         printf(" %u: %u;", floors[i].number, count);

@@ -25,7 +25,7 @@ pub fn single_faults(random: &mut Random) -> Expected<Reading> {
     groups.concat()
 }
 
-/// All cases whose answer is only computed.
+/// All cases whose outcome is only computed.
 pub fn computed(random: &mut Random) -> Vec<Reading> {
     let groups = [
         changed_headers(random),

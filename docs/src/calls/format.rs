@@ -1,4 +1,4 @@
-//! The file format of calls and of their answers. A word is 4 bytes, big-endian.
+//! The file format of calls and of their outcomes. A word is 4 bytes, big-endian.
 //!
 //! A case is 18 words, three lists of words, and a list of bytes:
 //!
@@ -18,7 +18,7 @@
 //!
 //! A signed value has 64 bits in two's complement, and goes as two words, the high one first.
 //!
-//! An answer is the refusal number, 0 for a call that was done; then, of a message that was read,
+//! An outcome is the refusal number, 0 for a call that was done; then, of a message that was read,
 //! kind, modulus number, host, rows, columns and job number, of an element that was read its signed
 //! value in two words, and of a value taken back its element; then the output after the call. Before
 //! it every byte of the output is A5 hex. Of the output the part up to the last element that is not
@@ -176,8 +176,8 @@ pub fn number(call: &Call) -> u32 {
     refused.unwrap_or(0)
 }
 
-/// The bytes of a call's answer.
-pub fn answer(call: &Call) -> Vec<u8> {
+/// The bytes of a call's outcome.
+pub fn outcome(call: &Call) -> Vec<u8> {
     let mut bytes = words(&[number(call)]);
     bytes.extend(match call {
         Call::Share(call) => elements_told(&share(call).unwrap_or_default(), call.room),
@@ -225,14 +225,14 @@ fn bytes_told(written: &[u8], room: usize) -> Vec<u8> {
     bytes
 }
 
-/// An output of this length after something was written into its first places, up to the last
-/// place that differs from the filling.
+/// An output of this length after something was written to its front, up to the last of it
+/// that differs from the filling.
 fn trimmed<T: Copy + PartialEq>(written: &[T], room: usize, filling: T) -> Vec<T> {
     let mut output = vec![filling; room];
     output[..written.len()].copy_from_slice(written);
     let length = output
         .iter()
-        .rposition(|&place| place != filling)
+        .rposition(|&told| told != filling)
         .map_or(0, |last| last + 1);
     output.truncate(length);
     output

@@ -26,7 +26,7 @@ use crate::sheet::product::product;
 use crate::sheet::random::Random;
 use crate::sheet::share::{share, Side};
 use crate::sheet::signed::{signed_reading, way_back, SignedReading, WayBack};
-use format::{answer, case, number, Call};
+use format::{case, number, outcome, Call};
 
 /// The numbers that each call can give, with the least count of cases.
 #[rustfmt::skip]
@@ -49,17 +49,17 @@ const FLOORS: &Floors = &[
     ("way back", &[(0, 575), (1, 242), (25, 318)]),
 ];
 
-/// Checks the program, then writes the cases to one file and the answers to the other.
+/// Checks the program, then writes the cases to one file and their outcomes to the other.
 pub fn write_files(stdin_file: &str, stdout_file: &str) {
     plan_check::run();
     hand_values();
     let calls = gathered();
     calls.iter().for_each(reads_back);
     let cases: Vec<Vec<u8>> = calls.iter().map(case).collect();
-    let answers: Vec<Vec<u8>> = calls.iter().map(answer).collect();
+    let outcomes: Vec<Vec<u8>> = calls.iter().map(outcome).collect();
     hold(&counted(&calls), FLOORS);
     save(stdin_file, &cases.concat());
-    save(stdout_file, &answers.concat());
+    save(stdout_file, &outcomes.concat());
 }
 
 /// The shares, the answers and the signed reading of 01, "Checked by hand".

@@ -387,7 +387,7 @@ fn large_plans(random: &mut Random) -> Expected<Sharing> {
         .collect()
 }
 
-/// All cases whose answer is only computed: fit calls with a number of the job, or the host,
+/// All cases whose outcome is only computed: fit calls with a number of the job, or the host,
 /// changed a little.
 pub fn computed(random: &mut Random) -> Vec<Sharing> {
     (0..60)

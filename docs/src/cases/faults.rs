@@ -34,8 +34,8 @@ pub fn wrong_lengths(list: &[u32]) -> Vec<Vec<u32>> {
     vec![Vec::new(), short, long, list.repeat(2)]
 }
 
-/// A list with q - 1, q and 2^32 - 1 at its first and at its last place, and with the number that
-/// is due for such an element.
+/// A list with q - 1, q and 2^32 - 1 at its front and at its end, and with the number that is due
+/// for such an element.
 pub fn border_elements(list: &[u32], q: u32, number: u32) -> Expected<Vec<u32>> {
     let mut lists = Vec::new();
     for at in [0, list.len() - 1] {

@@ -105,7 +105,7 @@ fn elements(random: &mut Random) -> Expected<JobCall> {
         let base = drawn(random, line);
         assert_eq!(choose(&base.job).needed, 6);
         for host in [1, 6, 7, 8, 9, 10] {
-            let block = base.place(host);
+            let block = base.block(host);
             for (elements, due) in border_elements(&base.store[block.clone()], q, 14) {
                 let mut call = base.clone();
                 call.heard = 0b01_0111_1111;
@@ -145,7 +145,7 @@ fn every_group(random: &mut Random) -> Expected<JobCall> {
             call.heard = heard;
             call.store = random.words(call.store.len());
             for host in call.heard_hosts() {
-                let block = call.place(host);
+                let block = call.block(host);
                 call.store[block].copy_from_slice(&whole.products[host as usize - 1]);
             }
             let enough = call.heard_hosts().len() >= 3;
@@ -182,7 +182,7 @@ fn any_answer(random: &mut Random, round: u32) -> (JobCall, u32) {
     }
     call.store = random.words(call.store.len());
     for host in call.heard_hosts() {
-        let block = call.place(host);
+        let block = call.block(host);
         let elements = random.elements(block.len(), q);
         call.store[block].copy_from_slice(&elements);
     }

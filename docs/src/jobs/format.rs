@@ -1,4 +1,4 @@
-//! The file format of calls on whole jobs and of their answers. A word is 4 bytes, big-endian.
+//! The file format of calls on whole jobs and of their outcomes. A word is 4 bytes, big-endian.
 //!
 //! A case is 19 words, two lists of words, and a list of bytes:
 //!
@@ -17,14 +17,15 @@
 //! takes more of it than the last list 2 gave. There are at most 128 points, 4096 elements in
 //! store and table, and 20,000 bytes of message. Words that a call has no use for are 0.
 //!
-//! The answer to an arrival is the refusal number, 0 for one that was taken, and two words with the
-//! hosts heard after it, which a refusal leaves as they were. The answer to a decoding is the
-//! refusal number and the table after the call, told as in calls.rs: before the call every byte of
-//! it is A5 hex, and the part up to the last element that is not A5A5A5A5 hex is told, a word with
-//! its length and then its elements. The answer to a call that tells the store is its elements.
+//! The outcome of an arrival is the refusal number, 0 for one that was taken, and two words with
+//! the hosts heard after it, which a refusal leaves as they were. The outcome of a decoding is the
+//! refusal number and the table after the call, told as in calls/format.rs: before the call every
+//! byte of it is A5 hex, and the part up to the last element that is not A5A5A5A5 hex is told, a
+//! word with its length and then its elements. The outcome of a call that tells the store is its
+//! elements.
 //!
 //!   number  the refusal number of a call
-//!   Files   cases and answers as they are written one after another
+//!   Files   cases and outcomes as they are written one after another
 
 use std::collections::BTreeMap;
 
@@ -46,12 +47,12 @@ pub fn number(call: &JobCall) -> u32 {
     refused.unwrap_or(0)
 }
 
-/// Cases and answers so far, how many there are of each call and refusal number, what the buffer
+/// Cases and outcomes so far, how many there are of each call and refusal number, what the buffer
 /// then holds, how much of it the last list of elements gave, and whether an arrival was made since
 /// the store was last told.
 pub struct Files {
     pub cases: Vec<u8>,
-    pub answers: Vec<u8>,
+    pub outcomes: Vec<u8>,
     pub counts: BTreeMap<(&'static str, u32), u32>,
     buffer: Vec<u32>,
     given: usize,
@@ -63,7 +64,7 @@ impl Files {
     pub fn new() -> Files {
         Files {
             cases: Vec::new(),
-            answers: Vec::new(),
+            outcomes: Vec::new(),
             counts: BTreeMap::new(),
             buffer: vec![0; BUFFER],
             given: 0,
@@ -71,7 +72,7 @@ impl Files {
         }
     }
 
-    /// Writes a call and its answer. The store's elements are given where the call is to have
+    /// Writes a call and its outcome. The store's elements are given where the call is to have
     /// others than the buffer holds; what arrivals left there is told before.
     pub fn add(&mut self, call: &JobCall) {
         let length = call.store.len();
@@ -92,10 +93,10 @@ impl Files {
         }
     }
 
-    /// Writes a call on the store that is there, and its answer; a taken arrival changes the store.
+    /// Writes a call on the store that is there, and its outcome; a taken arrival changes the store.
     fn put(&mut self, call: &JobCall, replaced: bool) {
         self.cases.extend(case(call, replaced));
-        self.answers.extend(answer(call));
+        self.outcomes.extend(outcome(call));
         *self.counts.entry((name(call), number(call))).or_default() += 1;
         self.untold = match call.act {
             Act::Arrive => true,
@@ -139,8 +140,8 @@ fn halves(heard: u64) -> [u32; 2] {
     [(heard >> 32) as u32, heard as u32]
 }
 
-/// The bytes of a call's answer.
-fn answer(call: &JobCall) -> Vec<u8> {
+/// The bytes of a call's outcome.
+fn outcome(call: &JobCall) -> Vec<u8> {
     match call.act {
         Act::Arrive => {
             let heard = arrive(call).map_or(call.heard, |arrived| arrived.heard);

@@ -38,7 +38,7 @@ const FLOORS: &Floors = &[
     ("store told", &[(0, 574)]),
 ];
 
-/// Checks the program, then writes the cases to one file and the answers to the other.
+/// Checks the program, then writes the cases to one file and their outcomes to the other.
 pub fn write_files(stdin_file: &str, stdout_file: &str) {
     plan_check::run();
     let random = &mut Random::new(2028);
@@ -54,9 +54,9 @@ pub fn write_files(stdin_file: &str, stdout_file: &str) {
     }
     files.tell();
     hold(&files.counts, FLOORS);
-    assert!(files.cases.len() < 1_200_000 && files.answers.len() < 600_000);
+    assert!(files.cases.len() < 1_200_000 && files.outcomes.len() < 600_000);
     save(stdin_file, &files.cases);
-    save(stdout_file, &files.answers);
+    save(stdout_file, &files.outcomes);
 }
 
 /// The calls of a list; panics if one gets another refusal number than it was made for.

@@ -1,6 +1,6 @@
 //! A story: calls on one job, one after another, each given the hosts heard and the store as the
 //! one before left them. It keeps a list of its own of the hosts with a fit message and of those
-//! whose first one was false, and holds each answer to demand 3.
+//! whose first one was false, and holds each outcome to demand 3.
 //!
 //!   Story  the calls so far and what they left
 

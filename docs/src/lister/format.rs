@@ -1,5 +1,5 @@
 //! The file format of the lister's cases: each case is its length in two bytes, big-endian, and
-//! then its bytes. Answers are written one after another with nothing between.
+//! then its bytes. Replies are written one after another with nothing between.
 
 use std::collections::HashSet;
 

@@ -126,7 +126,7 @@ fn leading_zeros() -> Vec<Vec<u8>> {
         .collect()
 }
 
-/// Words that are no number of 1 to 5 digits, in places all along the line.
+/// Words that are no number of 1 to 5 digits, all along the line.
 fn wrong_numbers() -> Vec<Vec<u8>> {
     #[rustfmt::skip]
     let words: [&[u8]; 30] = [
@@ -178,7 +178,7 @@ fn padded(line: &[u8], length: usize, byte: u8) -> Vec<u8> {
     input
 }
 
-/// Lines with one byte replaced, put in or taken out at a random place; some stay well-formed.
+/// Lines with one byte replaced, put in or taken out at random; some stay well-formed.
 pub fn damaged(random: &mut Random, lines: &[Vec<u8>]) -> Vec<Vec<u8>> {
     (0..20)
         .map(|_| {

@@ -10,13 +10,13 @@ mod plans;
 
 use crate::cases::counts::{hold, Counts, Floors};
 use crate::cases::save;
-use crate::sheet::listing::{answer, parse, refused, text};
+use crate::sheet::listing::{parse, refused, reply, text};
 use crate::sheet::plan_check;
 use crate::sheet::random::Random;
 use format::{distinct, framed};
 
-/// The answer to the sheet's example, as the sheet has it.
-const EXAMPLE_ANSWER: &str = "MODULUS 257\nLAYOUT 1\nHOSTS 20\nNEEDED 17\n\
+/// The reply to the sheet's example, as the sheet has it.
+const EXAMPLE_REPLY: &str = "MODULUS 257\nLAYOUT 1\nHOSTS 20\nNEEDED 17\n\
     A 0 1 6 7 | 10 11\nB 1 3 0 2 | 4 5\nC 1 3 7 9\n";
 
 /// The numbers that the lister can give, with the least count of cases.
@@ -29,18 +29,18 @@ const FLOORS: &Floors = &[
     ]),
 ];
 
-/// Checks the program, then writes the cases to one file and the answers to the other.
+/// Checks the program, then writes the cases to one file and the replies to the other.
 pub fn write_files(stdin_file: &str, stdout_file: &str) {
     plan_check::run();
-    assert_eq!(answer(b"2 4 4 4 2 2 2 2 2 20\n"), EXAMPLE_ANSWER);
+    assert_eq!(reply(b"2 4 4 4 2 2 2 2 2 20\n"), EXAMPLE_REPLY);
     let inputs = gathered();
-    let answers: Vec<String> = inputs.iter().map(|input| answer(input)).collect();
+    let replies: Vec<String> = inputs.iter().map(|input| reply(input)).collect();
     inputs.iter().for_each(|input| reads_back(input));
     let file = framed(&inputs);
     assert!(file.len() < 60_000 && inputs.iter().all(|input| input.len() < 200));
-    hold(&counted(&answers), FLOORS);
+    hold(&counted(&replies), FLOORS);
     save(stdin_file, &file);
-    save(stdout_file, answers.concat().as_bytes());
+    save(stdout_file, replies.concat().as_bytes());
 }
 
 /// All inputs, each once.
@@ -48,7 +48,7 @@ fn gathered() -> Vec<Vec<u8>> {
     let mut random = Random::new(2026);
     let mut inputs: Vec<Vec<u8>> = expected_plans();
     inputs.extend(plans::computed(&mut random).iter().map(text));
-    assert!(inputs.iter().all(|input| answer(input) != refused(26)));
+    assert!(inputs.iter().all(|input| reply(input) != refused(26)));
     let damaged = malformed::damaged(&mut random, &inputs);
     inputs.extend(malformed_texts(&mut random));
     inputs.extend(damaged);
@@ -56,22 +56,22 @@ fn gathered() -> Vec<Vec<u8>> {
 }
 
 /// The plans that are made to get a certain refusal number or to be accepted; panics if one
-/// gets another answer.
+/// gets another reply.
 fn expected_plans() -> Vec<Vec<u8>> {
     let mut inputs = Vec::new();
     for (line, number) in plans::expected() {
         let input = text(&line);
-        assert_eq!(kind(&answer(&input)).1, number, "{line:?}");
+        assert_eq!(kind(&reply(&input)).1, number, "{line:?}");
         inputs.push(input);
     }
     inputs
 }
 
-/// The malformed inputs; panics if one of them gets another answer than 26.
+/// The malformed inputs; panics if one of them gets another reply than 26.
 fn malformed_texts(random: &mut Random) -> Vec<Vec<u8>> {
     let inputs = malformed::malformed(random);
     for input in &inputs {
-        assert_eq!(answer(input), refused(26), "{input:?}");
+        assert_eq!(reply(input), refused(26), "{input:?}");
     }
     inputs
 }
@@ -84,11 +84,11 @@ fn reads_back(input: &[u8]) {
     }
 }
 
-/// The kind of an answer: its layout and 0, or its refusal number.
-fn kind(answer: &str) -> (&'static str, u32) {
+/// The kind of a reply: its layout and 0, or its refusal number.
+fn kind(reply: &str) -> (&'static str, u32) {
     let value = |label: &str| {
-        let line = answer.lines().find_map(|line| line.strip_prefix(label));
-        line.map_or(0, |digits| digits.parse().expect("an answer's number"))
+        let line = reply.lines().find_map(|line| line.strip_prefix(label));
+        line.map_or(0, |digits| digits.parse().expect("a reply's number"))
     };
     match value("LAYOUT ") {
         1 => ("layout 1", 0),
@@ -97,11 +97,11 @@ fn kind(answer: &str) -> (&'static str, u32) {
     }
 }
 
-/// How many cases there are of each kind of answer.
-fn counted(answers: &[String]) -> Counts {
+/// How many cases there are of each kind of reply.
+fn counted(replies: &[String]) -> Counts {
     let mut counts = Counts::new();
-    for answer in answers {
-        *counts.entry(kind(answer)).or_default() += 1;
+    for reply in replies {
+        *counts.entry(kind(reply)).or_default() += 1;
     }
     counts
 }

@@ -2,7 +2,7 @@
 //! both layouts, ties, random plans and near misses.
 
 use crate::cases::draw::{draw_cut, draw_in_layout, nudged};
-use crate::sheet::listing::{answer, text};
+use crate::sheet::listing::{reply, text};
 use crate::sheet::plan::{choose, refusal, Job, Line};
 use crate::sheet::plan_check::all_cuts;
 use crate::sheet::random::Random;
@@ -35,7 +35,7 @@ pub fn with(line: Line, field: usize, value: u32) -> Line {
     changed
 }
 
-/// All cases whose answer kind is known from the way they are made.
+/// All cases whose reply kind is known from the way they are made.
 pub fn expected() -> Vec<Expected> {
     let groups = [
         checked_by_hand(),
@@ -50,7 +50,7 @@ pub fn expected() -> Vec<Expected> {
     groups.concat()
 }
 
-/// All cases whose answer is only computed.
+/// All cases whose reply is only computed.
 pub fn computed(random: &mut Random) -> Vec<Line> {
     let groups = [
         sweeps(),
@@ -130,7 +130,7 @@ fn host_limits() -> Vec<Expected> {
     list
 }
 
-/// A line with each value tried in each field in turn, all with the same answer kind.
+/// A line with each value tried in each field in turn, all with the same reply kind.
 fn tried(line: Line, fields: &[usize], values: &[u32], number: u32) -> Vec<Expected> {
     let pairs = fields
         .iter()
@@ -230,7 +230,7 @@ fn disjoint(one: &Fault, two: &Fault) -> bool {
 }
 
 /// The largest and smallest lines: all equal numbers, the largest matrices, and for each layout
-/// the accepted plan with the longest answer.
+/// the accepted plan with the longest reply.
 fn extremes() -> Vec<Expected> {
     vec![
         ([0; 10], 1),
@@ -262,7 +262,7 @@ fn longest(number: u32) -> Line {
     });
     let lines = chosen.map(|job| job.line());
     lines
-        .max_by_key(|line| answer(&text(line)).len())
+        .max_by_key(|line| reply(&text(line)).len())
         .expect("no cut fits")
 }
 

@@ -31,7 +31,7 @@ pub fn arrive(call: &JobCall) -> Result<Arrived, u32> {
         return Err(23);
     }
     let mut store = call.store.clone();
-    store[call.place(fields.host)].copy_from_slice(&elements);
+    store[call.block(fields.host)].copy_from_slice(&elements);
     let heard = call.heard | 1 << (fields.host - 1);
     Ok(Arrived { heard, store })
 }

@@ -17,7 +17,7 @@ pub fn decode(call: &JobCall) -> Result<Vec<u32>, u32> {
     if heard.len() < layout.needed as usize {
         return Err(24);
     }
-    let block = |host: u32| &call.store[call.place(host)];
+    let block = |host: u32| &call.store[call.block(host)];
     if heard
         .iter()
         .any(|&host| block(host).iter().any(|&x| x >= q))

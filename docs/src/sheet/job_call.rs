@@ -57,7 +57,7 @@ impl JobCall {
     }
 
     /// Where a host's block lies in the store.
-    pub fn place(&self, host: u32) -> Range<usize> {
+    pub fn block(&self, host: u32) -> Range<usize> {
         let length = answer_length(&self.job);
         let start = (host as usize - 1) * length;
         start..start + length

@@ -31,7 +31,7 @@ fn number(word: &[u8]) -> Option<u32> {
 }
 
 /// What the lister prints for an input.
-pub fn answer(input: &[u8]) -> String {
+pub fn reply(input: &[u8]) -> String {
     let Some(line) = parse(input) else {
         return refused(26);
     };

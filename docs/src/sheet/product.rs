@@ -33,8 +33,8 @@ pub fn product(call: &Multiplying) -> Result<Vec<u32>, u32> {
     if call.a.iter().chain(&call.b).any(|&element| element >= q) {
         return Err(14);
     }
-    let places = (0..rows).flat_map(|i| (0..columns).map(move |j| (i, j)));
-    Ok(places.map(|(i, j)| entry(call, i, j, q)).collect())
+    let cells = (0..rows).flat_map(|i| (0..columns).map(move |j| (i, j)));
+    Ok(cells.map(|(i, j)| entry(call, i, j, q)).collect())
 }
 
 /// The product's element in a row and a column, from 0: at most 4096 products of at most 2^32

@@ -122,13 +122,13 @@ fn sample() -> Vec<Case> {
     }
     let numbers = sample_numbers();
     assert_eq!(numbers.len(), 126);
-    for (section, place, bytes) in numbers {
+    for (section, index, bytes) in numbers {
         for doubled in [false, true] {
             let digits = &SAMPLE[bytes.clone()];
             let digits = [digits, " ", digits].concat();
             let mut text = SAMPLE.to_string();
             text.replace_range(bytes.clone(), if doubled { &digits } else { "" });
-            let due = sample_due(&job, section, place, doubled);
+            let due = sample_due(&job, section, index, doubled);
             cases.push((text.into_bytes(), due));
         }
     }
@@ -136,13 +136,13 @@ fn sample() -> Vec<Case> {
 }
 
 /// What is due where a number of a section of README's job is dropped or doubled.
-fn sample_due(job: &JobText, section: usize, place: usize, doubled: bool) -> String {
+fn sample_due(job: &JobText, section: usize, index: usize, doubled: bool) -> String {
     let needs = job.parts()[section].len();
     if section == 6 {
         let mut job = job.clone();
         match doubled {
-            true => job.order.insert(place, job.order[place]),
-            false => drop(job.order.remove(place)),
+            true => job.order.insert(index, job.order[index]),
+            false => drop(job.order.remove(index)),
         }
         return job.due();
     }
@@ -152,19 +152,19 @@ fn sample_due(job: &JobText, section: usize, place: usize, doubled: bool) -> Str
     count_line(section, has, needs, line)
 }
 
-/// The numbers of README's job: the section of each, its place there, and its bytes.
+/// The numbers of README's job: the section of each, its index there, and its bytes.
 fn sample_numbers() -> Vec<(usize, usize, Range<usize>)> {
     let (mut numbers, mut begin) = (Vec::new(), 0);
-    let (mut sections, mut place) = (0, 0);
+    let (mut sections, mut index) = (0, 0);
     for line in SAMPLE.split_inclusive('\n') {
         let bare = line.split(['#', '\n']).next().unwrap_or("");
         let mut at = begin;
         for token in bare.split(' ') {
             if token.starts_with(|c: char| c.is_ascii_digit()) {
-                numbers.push((sections - 1, place, at..at + token.len()));
-                place += 1;
+                numbers.push((sections - 1, index, at..at + token.len()));
+                index += 1;
             } else if !token.is_empty() {
-                (sections, place) = (sections + 1, 0);
+                (sections, index) = (sections + 1, 0);
             }
             at += token.len() + 1;
         }

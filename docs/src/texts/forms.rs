@@ -8,7 +8,7 @@
 
 use super::job_text::{sectioned, tokens, Case, JobText, Parts, GAPS};
 use super::printed::{count_line, fault_line, JOB_NUMBERS, MARK, MOST_TEXT, TOO_LONG};
-use super::sections::{Fault, Place};
+use super::sections::{Fault, Position};
 
 /// The numbers of the sheet's smallest job, section by section.
 pub fn parts() -> Parts {
@@ -97,11 +97,11 @@ fn line_ends() -> Vec<Case> {
     for (end, count) in ends {
         cases.push(fit(text(end, "")));
         let more = [&text(end, "")[..], end, b" ?"].concat();
-        let place = Place {
+        let position = Position {
             line: 14 * count + 1,
             column: 2,
         };
-        cases.push((more, fault_line(Fault::NoNumber, place)));
+        cases.push((more, fault_line(Fault::NoNumber, position)));
     }
     cases
 }
@@ -185,7 +185,7 @@ fn longest() -> Vec<Case> {
             padded(b"JOB ".into(), length, b'0'),
             fault_line(
                 Fault::NotTheWord(1),
-                Place {
+                Position {
                     line: 1,
                     column: MOST_TEXT,
                 },

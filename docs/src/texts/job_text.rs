@@ -80,7 +80,7 @@ impl JobText {
 
     /// The lines of the plan.
     pub fn plan(&self) -> String {
-        listing::answer(&listing::text(&self.line))
+        listing::reply(&listing::text(&self.line))
     }
 
     /// All that must be printed for a job that is shared.

@@ -6,16 +6,16 @@
 use super::forms::{bare, parts};
 use super::job_text::{sectioned, tokens, Case};
 use super::printed::{fault_line, MARK, MOST_TEXT};
-use super::sections::{Fault, Place, WORDS};
+use super::sections::{Fault, Position, WORDS};
 
 /// The line for a byte that is no number's.
 fn no_number(line: usize, column: usize) -> String {
-    fault_line(Fault::NoNumber, Place { line, column })
+    fault_line(Fault::NoNumber, Position { line, column })
 }
 
 /// The line for a number that is too large.
 fn too_large(line: usize, column: usize) -> String {
-    fault_line(Fault::TooLarge, Place { line, column })
+    fault_line(Fault::TooLarge, Position { line, column })
 }
 
 /// Texts with a fault.
@@ -32,7 +32,7 @@ pub fn faults() -> Vec<Case> {
     groups.concat()
 }
 
-/// Short texts after the word JOB and a line feed, with the place of the fault as told by hand.
+/// Short texts after the word JOB and a line feed, with the position of the fault as told by hand.
 fn told_faults() -> Vec<Case> {
     let texts: [(&[u8], usize, usize); 23] = [
         (b"-", 2, 1),
@@ -103,7 +103,7 @@ fn wrong_bytes() -> Vec<Case> {
     cases.to_vec()
 }
 
-/// Tokens that are no number, or too large a one, in places all along the text; each token stands in
+/// Tokens that are no number, or too large a one, all along the text; each token stands in
 /// a line of its own, and the fault so many bytes into the token.
 fn wrong_tokens() -> Vec<Case> {
     let list: [(&[u8], usize); 13] = [
@@ -163,7 +163,7 @@ fn large_in_each_section() -> Vec<Case> {
 /// The UTF-8 mark, or a part of it, where it does not belong.
 fn marks() -> Vec<Case> {
     let expected =
-        |section, line, column| fault_line(Fault::NotTheWord(section), Place { line, column });
+        |section, line, column| fault_line(Fault::NotTheWord(section), Position { line, column });
     let at = |before: &[u8], mark: &[u8], after: &[u8]| [before, mark, after].concat();
     let text = bare();
     let points = text.windows(6).position(|word| word == b"POINTS");

@@ -1,6 +1,6 @@
 //! What the program of a whole job must print for a text.
 //!
-//! A text has seven sections (`text_sections`): the job's eleven numbers, N points, A, B, A's masks,
+//! A text has seven sections (`sections`): the job's eleven numbers, N points, A, B, A's masks,
 //! B's masks, and the hosts whose answers come in, one after another. A UTF-8 mark at its front is
 //! skipped. What is tested, in this order; the first that fits is printed:
 //!
@@ -26,7 +26,7 @@
 //!   heard_line     the hosts heard
 //!   tables         a table and its signed reading
 
-use super::sections::{sections, Fault, Place, Section, WORDS};
+use super::sections::{sections, Fault, Position, Section, WORDS};
 use crate::sheet::arrival::{arrive, Arrived};
 use crate::sheet::decode::decode;
 use crate::sheet::job_call::{answer_length, Act, JobCall};
@@ -51,15 +51,15 @@ pub const MARK: &[u8] = b"\xef\xbb\xbf";
 pub const TOO_LONG: &str = "TEXT TOO LONG: at most 65535 bytes\n";
 
 /// The line for a fault.
-pub fn fault_line(fault: Fault, place: Place) -> String {
-    let Place { line, column } = place;
-    let place = format!("at line {line}, column {column}");
+pub fn fault_line(fault: Fault, position: Position) -> String {
+    let Position { line, column } = position;
+    let at = format!("at line {line}, column {column}");
     match fault {
-        Fault::NoNumber => format!("NO NUMBER {place}\n"),
-        Fault::TooLarge => format!("NUMBER TOO LARGE {place}: the largest is {}\n", u32::MAX),
+        Fault::NoNumber => format!("NO NUMBER {at}\n"),
+        Fault::TooLarge => format!("NUMBER TOO LARGE {at}: the largest is {}\n", u32::MAX),
         Fault::NotTheWord(section) => match WORDS.get(section) {
-            Some(word) => format!("EXPECTED the word {word} {place}\n"),
-            None => format!("EXPECTED the end of the text {place}\n"),
+            Some(word) => format!("EXPECTED the word {word} {at}\n"),
+            None => format!("EXPECTED the end of the text {at}\n"),
         },
     }
 }
@@ -82,7 +82,7 @@ pub fn printed(text: &[u8]) -> String {
     }
     match sections(text.strip_prefix(MARK).unwrap_or(text)) {
         Ok(sections) => printed_for(&sections),
-        Err((fault, place)) => fault_line(fault, place),
+        Err((fault, position)) => fault_line(fault, position),
     }
 }
 
@@ -110,7 +110,7 @@ fn printed_for(sections: &[Section]) -> String {
     if let Some(line) = (2..).zip(needs(&job)).find_map(|(i, n)| miscounted(i, n)) {
         return line;
     }
-    let plan = listing::answer(&listing::text(&line));
+    let plan = listing::reply(&listing::text(&line));
     let sides = [0, 1].map(|side| Contents {
         matrix: numbers(2 + side),
         masks: numbers(4 + side),

@@ -172,8 +172,8 @@ pub fn borders(random: &mut Random) -> Vec<Case> {
                 } else {
                     &mut side.masks
                 };
-                let place = random.index(list.len());
-                list[place] = element;
+                let at = random.index(list.len());
+                list[at] = element;
                 let due = match element < q {
                     true => job.due(),
                     false => job.plan() + &refused(number),

@@ -7,8 +7,8 @@
 //! zeros allowed, with a value below 2^32.
 //!
 //!   WORDS     the words of the sections
-//!   Place     a place in a text, line and column from 1; a column is a byte
-//!   Fault     what is wrong at a place
+//!   Position  a position in a text, line and column from 1; a column is a byte
+//!   Fault     what is wrong at a position
 //!   Section   a section: the line of its word, and its numbers
 //!   sections  the sections of a text, or its first fault
 //!   lines     the lines of a text
@@ -18,14 +18,14 @@ use std::mem::take;
 /// The words of the sections, in their order.
 pub const WORDS: [&str; 7] = ["JOB", "POINTS", "A", "B", "MASKS_A", "MASKS_B", "ANSWERS"];
 
-/// A place in a text.
+/// A position in a text.
 #[derive(Clone, Copy, Debug, PartialEq, Eq)]
-pub struct Place {
+pub struct Position {
     pub line: usize,
     pub column: usize,
 }
 
-/// What is wrong at a place: a byte that is no number's, a digit by which a value would reach 2^32,
+/// What is wrong at a position: a byte that is no number's, a digit by which a value would reach 2^32,
 /// or something else than the word of a section; past the last section, than the end.
 #[derive(Clone, Copy, Debug, PartialEq, Eq)]
 pub enum Fault {
@@ -41,21 +41,21 @@ pub struct Section {
 }
 
 /// The sections of a text, or its first fault.
-pub fn sections(text: &[u8]) -> Result<Vec<Section>, (Fault, Place)> {
+pub fn sections(text: &[u8]) -> Result<Vec<Section>, (Fault, Position)> {
     let mut sections: Vec<Section> = Vec::new();
-    for (place, token) in tokens(text) {
+    for (position, token) in tokens(text) {
         if sections.is_empty() || is_word(&token) {
             let fault = Fault::NotTheWord(sections.len());
-            let word = WORDS.get(sections.len()).ok_or((fault, place))?;
+            let word = WORDS.get(sections.len()).ok_or((fault, position))?;
             if token != word.as_bytes() {
-                return Err((fault, place));
+                return Err((fault, position));
             }
-            let (line, numbers) = (place.line, Vec::new());
+            let (line, numbers) = (position.line, Vec::new());
             sections.push(Section { line, numbers });
         } else {
             let number = value(&token).map_err(|(fault, before)| {
-                let column = place.column + before;
-                (fault, Place { column, ..place })
+                let column = position.column + before;
+                (fault, Position { column, ..position })
             })?;
             let last = sections.last_mut().expect("a section");
             last.numbers.push(number);
@@ -90,23 +90,23 @@ pub fn lines(text: &[u8]) -> Vec<Vec<u8>> {
     lines
 }
 
-/// The place of a text's end.
-fn end(text: &[u8]) -> Place {
+/// The position of a text's end.
+fn end(text: &[u8]) -> Position {
     let lines = lines(text);
-    Place {
+    Position {
         line: lines.len(),
         column: lines[lines.len() - 1].len() + 1,
     }
 }
 
-/// The tokens of a text, each with its place.
-fn tokens(text: &[u8]) -> Vec<(Place, Vec<u8>)> {
+/// The tokens of a text, each with its position.
+fn tokens(text: &[u8]) -> Vec<(Position, Vec<u8>)> {
     let mut tokens = Vec::new();
     for (line, bytes) in (1..).zip(lines(text)) {
         let mut column = 1;
         for token in without_comment(&bytes).split(|byte| b" \t".contains(byte)) {
             if !token.is_empty() {
-                tokens.push((Place { line, column }, token.to_vec()));
+                tokens.push((Position { line, column }, token.to_vec()));
             }
             column += token.len() + 1;
         }

@@ -6,7 +6,7 @@
 use super::job_text::{tokens, Case, JobText};
 use super::jobs::drawn;
 use super::printed::fault_line;
-use super::sections::{Fault, Place, WORDS};
+use super::sections::{Fault, Position, WORDS};
 use crate::cases::draw::nudged;
 use crate::jobs::faults::SMALL;
 use crate::jobs::stories::small_line;
@@ -44,17 +44,17 @@ fn beginning(job: &JobText, kept: usize, gap: u8) -> Case {
         return (text, front.due());
     }
     let last = all[..kept].last().map_or(0, Vec::len);
-    let place = match gap {
-        b' ' => Place {
+    let position = match gap {
+        b' ' => Position {
             line: 1,
             column: text.len() + 1,
         },
-        _ => Place {
+        _ => Position {
             line: kept.max(1),
             column: last + 1,
         },
     };
-    (text, fault_line(Fault::NotTheWord(words), place))
+    (text, fault_line(Fault::NotTheWord(words), position))
 }
 
 /// Texts of small jobs with a byte or a number of the plan changed by chance.

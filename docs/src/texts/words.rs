@@ -5,7 +5,7 @@
 use super::forms::parts;
 use super::job_text::{tokens, Case};
 use super::printed::fault_line;
-use super::sections::{Fault, Place, WORDS};
+use super::sections::{Fault, Position, WORDS};
 
 /// Texts with a fault in a word.
 pub fn words() -> Vec<Case> {
@@ -15,18 +15,18 @@ pub fn words() -> Vec<Case> {
 
 /// The line where something else than a section's word stands in a line, at its front.
 fn expected(section: usize, line: usize) -> String {
-    fault_line(Fault::NotTheWord(section), Place { line, column: 1 })
+    fault_line(Fault::NotTheWord(section), Position { line, column: 1 })
 }
 
-/// The words and numbers of the sheet's smallest job, and the places of the words among them.
+/// The words and numbers of the sheet's smallest job, and the indices of the words among them.
 fn all() -> (Vec<Vec<u8>>, [usize; 7]) {
     let all = tokens(&parts());
-    let place = |word: &str| {
-        let place = all.iter().position(|token| token == word.as_bytes());
-        place.expect("each word is a token")
+    let index = |word: &str| {
+        let index = all.iter().position(|token| token == word.as_bytes());
+        index.expect("each word is a token")
     };
-    let places = WORDS.map(place);
-    (all, places)
+    let indices = WORDS.map(index);
+    (all, indices)
 }
 
 /// Tokens, each in a line.
@@ -34,7 +34,7 @@ fn lines(tokens: &[Vec<u8>]) -> Vec<u8> {
     tokens.join(&b'\n')
 }
 
-/// Short texts, with the word that is expected and its place as told by hand.
+/// Short texts, with the word that is expected and its position as told by hand.
 fn told() -> Vec<Case> {
     let texts: [(&[u8], &str, usize, usize); 29] = [
         (b"", "the word JOB", 1, 1),
@@ -83,13 +83,13 @@ fn told() -> Vec<Case> {
 fn missing() -> Vec<Case> {
     let mut cases = Vec::new();
     for section in 0..7 {
-        let (mut tokens, places) = all();
-        let next = *places.get(section + 1).unwrap_or(&tokens.len());
+        let (mut tokens, indices) = all();
+        let next = *indices.get(section + 1).unwrap_or(&tokens.len());
         let mut commented = tokens.clone();
-        commented[places[section]].insert(0, b'#');
-        tokens.remove(places[section]);
+        commented[indices[section]].insert(0, b'#');
+        tokens.remove(indices[section]);
         let [text, commented] = [tokens, commented].map(|tokens| lines(&tokens));
-        let [place, commented_place] = match section {
+        let [line, commented_line] = match section {
             0 => [1, 2],
             1..=5 => [next, next + 1],
             _ => {
@@ -98,8 +98,8 @@ fn missing() -> Vec<Case> {
                 continue;
             }
         };
-        cases.push((text, expected(section, place)));
-        cases.push((commented, expected(section, commented_place)));
+        cases.push((text, expected(section, line)));
+        cases.push((commented, expected(section, commented_line)));
     }
     cases
 }
@@ -107,37 +107,37 @@ fn missing() -> Vec<Case> {
 /// A text at whose end, after a number of one digit, the last word is expected.
 fn end_expected(text: Vec<u8>) -> Case {
     let line = text.split(|&byte| byte == b'\n').count();
-    let place = Place { line, column: 2 };
-    (text, fault_line(Fault::NotTheWord(6), place))
+    let position = Position { line, column: 2 };
+    (text, fault_line(Fault::NotTheWord(6), position))
 }
 
 /// Each word twice: at once, after its numbers, and at the end of the text.
 fn doubled() -> Vec<Case> {
     let mut cases = Vec::new();
     for (section, word) in WORDS.iter().enumerate() {
-        let (tokens, places) = all();
-        let next = *places.get(section + 1).unwrap_or(&tokens.len());
-        for (place, expecting) in [
-            (places[section] + 1, section + 1),
+        let (tokens, indices) = all();
+        let next = *indices.get(section + 1).unwrap_or(&tokens.len());
+        for (index, expecting) in [
+            (indices[section] + 1, section + 1),
             (next, section + 1),
             (tokens.len(), 7),
         ] {
             let mut tokens = tokens.clone();
-            tokens.insert(place, word.as_bytes().to_vec());
-            cases.push((lines(&tokens), expected(expecting, place + 1)));
+            tokens.insert(index, word.as_bytes().to_vec());
+            cases.push((lines(&tokens), expected(expecting, index + 1)));
         }
     }
     cases
 }
 
-/// Each two words exchanged, with their numbers left in place.
+/// Each two words exchanged, with their numbers left where they are.
 fn swapped() -> Vec<Case> {
     let mut cases = Vec::new();
     for later in 0..7 {
         for earlier in 0..later {
-            let (mut tokens, places) = all();
-            tokens.swap(places[earlier], places[later]);
-            cases.push((lines(&tokens), expected(earlier, places[earlier] + 1)));
+            let (mut tokens, indices) = all();
+            tokens.swap(indices[earlier], indices[later]);
+            cases.push((lines(&tokens), expected(earlier, indices[earlier] + 1)));
         }
     }
     cases
@@ -147,7 +147,7 @@ fn swapped() -> Vec<Case> {
 fn others() -> Vec<Case> {
     let mut cases = Vec::new();
     for (section, word) in WORDS.iter().enumerate() {
-        let (tokens, places) = all();
+        let (tokens, indices) = all();
         let others = [
             word.to_lowercase(),
             format!("{}{}", &word[..1], word[1..].to_lowercase() + "_"),
@@ -166,8 +166,8 @@ fn others() -> Vec<Case> {
         ];
         for other in others {
             let mut tokens = tokens.clone();
-            tokens[places[section]] = other.into_bytes();
-            cases.push((lines(&tokens), expected(section, places[section] + 1)));
+            tokens[indices[section]] = other.into_bytes();
+            cases.push((lines(&tokens), expected(section, indices[section] + 1)));
         }
     }
     cases
@@ -178,33 +178,33 @@ fn others() -> Vec<Case> {
 fn glued() -> Vec<Case> {
     let mut cases = Vec::new();
     for section in 0..7 {
-        let (tokens, places) = all();
-        let place = places[section];
+        let (tokens, indices) = all();
+        let index = indices[section];
         let without = |at: usize| {
             let mut tokens = tokens.clone();
             let token = tokens.remove(at + 1);
             tokens[at].extend(token);
             tokens
         };
-        cases.push((lines(&without(place)), expected(section, place + 1)));
+        cases.push((lines(&without(index)), expected(section, index + 1)));
         let told = |line: usize, column: usize| {
-            let place = Place { line, column };
-            fault_line(Fault::NoNumber, place)
+            let position = Position { line, column };
+            fault_line(Fault::NoNumber, position)
         };
         if section > 0 {
-            let column = tokens[place - 1].len() + 1;
-            cases.push((lines(&without(place - 1)), told(place, column)));
+            let column = tokens[index - 1].len() + 1;
+            cases.push((lines(&without(index - 1)), told(index, column)));
         }
         let mut stray = tokens.clone();
-        stray[place].insert(0, b'=');
+        stray[index].insert(0, b'=');
         let due = match section {
             0 => expected(0, 1),
-            _ => told(place + 1, 1),
+            _ => told(index + 1, 1),
         };
         cases.push((lines(&stray), due));
     }
-    let (mut tokens, places) = all();
-    tokens[places[4]] = b"MASKS_AMASKS_B".to_vec();
-    cases.push((lines(&tokens), expected(4, places[4] + 1)));
+    let (mut tokens, indices) = all();
+    tokens[indices[4]] = b"MASKS_AMASKS_B".to_vec();
+    cases.push((lines(&tokens), expected(4, indices[4] + 1)));
     cases
 }
