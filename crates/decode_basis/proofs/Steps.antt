@@ -25,7 +25,7 @@ use Rattle.algebra.proofs.Division.{getD-addRoot, ev-drop}
 use Rattle.field.specs.declared.Modulus.{Modulus}
 use Rattle.field.specs.Modulus.{prime}
 use Rattle.field.proofs.Moduli.{prime-prime}
-use Rattle.decode_basis.specs.Basis.{coefficients, product, basisScale}
+use Rattle.decode_basis.specs.Contracts.{coefficients, product, basisScale}
 
 pub residue-below : (m : Modulus) (n : ℕ) → n % prime m < prime m
 residue-below m n = mod-lt n (omega (arith, prime-prime m .above-one))

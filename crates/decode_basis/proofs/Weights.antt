@@ -19,7 +19,7 @@ use Rattle.algebra.proofs.Modular.{≈-trans, ≈-of-eq, ≈-by, ≈-mod, ≈-a
 use Rattle.algebra.proofs.Polynomials.{ev-scale, ev-cong, getD-scale, length-addRoot}
 use Rattle.algebra.proofs.Division.{getD-addRoot, addRoot-swap, ev-after}
 use Rattle.algebra.proofs.Interpolation.{length-basis-own}
-use Rattle.decode_basis.specs.Basis.{coefficients, product, quotient, basisScale}
+use Rattle.decode_basis.specs.Contracts.{coefficients, product, quotient, basisScale}
 use Rattle.decode_basis.proofs.Steps.{length-coefficients, getD-coefficients}
 
 -- s times each coefficient of cs is ≈ that of ds

@@ -6,7 +6,7 @@ ghost use lib.ListN.{length, getD};
 ghost use Rattle.algebra.specs.Lists.{tab};
 ghost use Rattle.algebra.specs.Polynomials.{addRoot};
 ghost use Rattle.field.specs.Modulus.{prime};
-ghost use Rattle.decode_basis.specs.Basis.{coefficients, product, quotient, basisScale};
+ghost use Rattle.decode_basis.specs.Contracts.{coefficients, product, quotient, basisScale};
 use field::Modulus;
 use words::wide_product;
 

@@ -14,7 +14,7 @@ use Rattle.refusal.specs.Chain.{outside}
 use Rattle.refusal.proofs.Chains.{inside-low, inside-high}
 use Rattle.refusal.proofs.Limits.{within-both}
 use Rattle.decode_table.specs.declared.Shape.{Shape}
-use Rattle.decode_table.specs.Pieces.{blockCount, pieceCount, piecesOf, sizesTest, misfit, tableAfter, Sized}
+use Rattle.decode_table.specs.Contracts.{blockCount, pieceCount, piecesOf, sizesTest, misfit, tableAfter, Sized}
 
 module _ (s : Shape) (places : ℕ) where
   pub sizes-told : sizesTest s places ≡ false → Sized s places

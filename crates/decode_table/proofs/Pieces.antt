@@ -22,10 +22,10 @@ use Rattle.algebra.proofs.Sums.{sum-bound}
 use Rattle.field.specs.declared.Modulus.{Modulus}
 use Rattle.field.specs.Modulus.{prime}
 use Rattle.field.proofs.Moduli.{prime-prime, sums-fit}
-use Rattle.sums.specs.Sums.{zeros, reduced}
+use Rattle.sums.specs.Contracts.{zeros, reduced}
 use Rattle.sums.proofs.Reduced.{reduced-tab}
 use Rattle.decode_table.specs.declared.Shape.{Shape}
-use Rattle.decode_table.specs.Pieces.{blockCount, blockLength, pieceCount, pieceBlock, pieceRow, answerTerms, pieceSum, Sized, Ready, There}
+use Rattle.decode_table.specs.Contracts.{blockCount, blockLength, pieceCount, pieceBlock, pieceRow, answerTerms, pieceSum, Sized, Ready, There}
 
 -- ---- where it lies
 

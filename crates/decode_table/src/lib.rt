@@ -5,8 +5,8 @@ ghost use lib.ListN.{length, getD, drop};
 ghost use Rattle.algebra.specs.Lists.{tab};
 ghost use Rattle.refusal.specs.Chain.{outside};
 ghost use Rattle.field.specs.Modulus.{prime};
-ghost use Rattle.sums.specs.Sums.{zeros};
-ghost use Rattle.decode_table.specs.Pieces.{
+ghost use Rattle.sums.specs.Contracts.{zeros};
+ghost use Rattle.decode_table.specs.Contracts.{
   pieceCount,
   answerTerms,
   pieceSum,

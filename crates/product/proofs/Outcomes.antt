@@ -21,7 +21,7 @@ use Rattle.refusal.proofs.Chains.{outcome-done, outcome-refused}
 use Rattle.refusal.proofs.Limits.{within-all, blocks-fit}
 use Rattle.field.specs.Modulus.{modulus}
 use Rattle.product.specs.Product.{productOf, lengthTest, productTests, productAfter}
-use Rattle.product.specs.Rows.{Ready}
+use Rattle.product.specs.Contracts.{Ready}
 
 module _ (n rows inner columns : ℕ) (a b out : List ℕ) where
   number : ℕ

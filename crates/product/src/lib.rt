@@ -7,7 +7,7 @@ ghost use Rattle.algebra.specs.Lists.{AllBelow, allBelow};
 ghost use Rattle.refusal.specs.Chain.{first};
 ghost use Rattle.field.specs.Modulus.{prime};
 ghost use Rattle.product.specs.Product.{productOf, lengthTest, productTests, productAfter};
-ghost use Rattle.product.specs.Rows.{Ready, AtOnce};
+ghost use Rattle.product.specs.Contracts.{Ready, AtOnce};
 use field::Modulus;
 use field::Named;
 use refusal::either;

@@ -22,7 +22,7 @@ use Rattle.algebra.specs.Sums.{sum}
 use Rattle.algebra.proofs.Orders.{le-or-lt}
 use Rattle.algebra.proofs.Lists.{length-tab, getD-tab, rest-is}
 use Rattle.algebra.proofs.Grids.{tab-cong}
-use Rattle.sums_rows.specs.Combination.{plus, combination, added}
+use Rattle.sums_rows.specs.Contracts.{plus, combination, added}
 
 module _ (sums : List ℕ) (f : ℕ → ℕ → ℕ) where
   unfoldable pub sumsTo : ℕ → List ℕ

@@ -6,7 +6,7 @@ use lib.ListN.{length, drop}
 use Rattle.algebra.proofs.Lists.{length-tab}
 use Rattle.field.specs.Modulus.{prime}
 use Rattle.field.proofs.Moduli.{prime-prime}
-use Rattle.decode_basis.specs.Basis.{coefficients, product}
+use Rattle.decode_basis.specs.Contracts.{coefficients, product}
 use Rattle.decode_basis.proofs.Steps.{length-coefficients, product-none, product-more}
 use borrow.Author.Needs.{needs}
 use Rattle.decode_basis.proofs.from_roots.Statement.{statement}

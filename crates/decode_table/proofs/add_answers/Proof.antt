@@ -7,8 +7,8 @@ use borrow.Author.Needs.{needs}
 use lib.ListN.{length, getD, drop}
 use lib.Seq.{getD-drop}
 use Rattle.algebra.specs.Lists.{entry}
-use Rattle.sums_rows.specs.Combination.{plus}
-use Rattle.decode_table.specs.Pieces.{answerTerms}
+use Rattle.sums_rows.specs.Contracts.{plus}
+use Rattle.decode_table.specs.Contracts.{answerTerms}
 use Rattle.sums_rows.proofs.Steps.{sumsTo, length-sums, sums-none, sums-more}
 use Rattle.decode_table.proofs.add_answers.Statement.{statement}
 use Rattle.decode_table.proofs.add_answers.Tie as tie

@@ -3,7 +3,7 @@ use mathlib.Core.Path.{sym, _∙_}
 use native.Mathlib.Nat.{mul-le-mul}
 use native.Mathlib.Omega.{arith}
 use borrow.Author.Needs.{needs}
-use Rattle.decode_table.specs.Pieces.{blockCount, pieceCount, misfit, Sized}
+use Rattle.decode_table.specs.Contracts.{blockCount, pieceCount, misfit, Sized}
 use Rattle.decode_table.proofs.Fits.{sizes-told}
 use Rattle.decode_table.proofs.misfit.Statement.{statement}
 use Rattle.decode_table.proofs.misfit.Tie as tie

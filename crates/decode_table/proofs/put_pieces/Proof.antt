@@ -12,7 +12,7 @@ use Rattle.algebra.proofs.Grids.{rows-none, rows-more, rows-all}
 use Rattle.field.specs.declared.Modulus.{Modulus}
 use Rattle.field.specs.Modulus.{prime}
 use Rattle.decode_table.specs.declared.Shape.{Shape}
-use Rattle.decode_table.specs.Pieces.{pieceCount, pieceSum, piecesOf}
+use Rattle.decode_table.specs.Contracts.{pieceCount, pieceSum, piecesOf}
 use Rattle.decode_table.proofs.Pieces.{few-pieces}
 use Rattle.decode_table.proofs.put_pieces.Statement.{statement}
 use Rattle.decode_table.proofs.put_pieces.Tie as tie

@@ -1,6 +1,6 @@
 -- `decode_table::sizes_test` meets its contract.
 use borrow.Author.Needs.{needs}
-use Rattle.decode_table.specs.Pieces.{sizesTest}
+use Rattle.decode_table.specs.Contracts.{sizesTest}
 use Rattle.decode_table.proofs.sizes_test.Statement.{statement}
 use Rattle.decode_table.proofs.sizes_test.Tie as tie
 

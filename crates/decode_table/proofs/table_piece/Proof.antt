@@ -7,10 +7,10 @@ use borrow.Author.Needs.{needs}
 use lib.ListN.{length, getD, take, drop}
 use Rattle.algebra.specs.Lists.{tab}
 use Rattle.field.specs.Modulus.{prime}
-use Rattle.sums.specs.Sums.{zeros}
+use Rattle.sums.specs.Contracts.{zeros}
 use Rattle.algebra.proofs.Lists.{rest-is}
 use Rattle.sums_rows.proofs.Steps.{rest-clipped}
-use Rattle.decode_table.specs.Pieces.{blockCount, blockLength, pieceCount, pieceBlock, pieceRow, answerTerms, pieceSum}
+use Rattle.decode_table.specs.Contracts.{blockCount, blockLength, pieceCount, pieceBlock, pieceRow, answerTerms, pieceSum}
 use Rattle.decode_table.proofs.Pieces.{Placed, placed, block-there, piece-there, reduced-piece}
 use Rattle.decode_table.proofs.table_piece.Statement.{statement}
 use Rattle.decode_table.proofs.table_piece.Tie as tie

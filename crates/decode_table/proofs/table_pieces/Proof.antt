@@ -8,7 +8,7 @@ use borrow.Author.Needs.{needs}
 use borrow.Author.Tests.{not-true, not-false}
 use Rattle.algebra.specs.Lists.{tab}
 use Rattle.field.specs.Modulus.{prime}
-use Rattle.sums.specs.Sums.{zeros}
+use Rattle.sums.specs.Contracts.{zeros}
 use Rattle.decode_table.proofs.Fits.{fit-told, table-made, table-stays}
 use Rattle.decode_table.proofs.table_pieces.Statement.{statement}
 use Rattle.decode_table.proofs.table_pieces.Tie as tie

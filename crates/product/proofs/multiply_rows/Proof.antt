@@ -13,7 +13,7 @@ use Rattle.algebra.proofs.Grids.{rows-none, rows-some, rows-all}
 use Rattle.field.specs.declared.Modulus.{Modulus}
 use Rattle.field.specs.Modulus.{prime}
 use Rattle.product.specs.Product.{productEntry, productOf}
-use Rattle.product.specs.Rows.{AtOnce}
+use Rattle.product.specs.Contracts.{AtOnce}
 use Rattle.product.proofs.Rows.{part-rows}
 use Rattle.product.proofs.multiply_rows.Statement.{statement}
 use Rattle.product.proofs.multiply_rows.Tie as tie
