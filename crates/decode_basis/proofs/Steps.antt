@@ -4,7 +4,7 @@
 --   length-coefficients, getD-coefficients  the first n coefficients have their number, and their elements
 --   product-none, product-more              the product of no roots, and of one more
 --   after                                   what a quotient has at e
---   after-none, after-more                  past the last coefficient, and one place before
+--   after-none, after-more                  past the last coefficient, and one before
 --   scale-none, scale-skip, scale-more      the scale over no points, with x itself more, and with another point more
 use mathlib.Core.Path.{_≡_, sym, ap, _∙_}
 use mathlib.Core.List.{List, [], _∷_}
