@@ -1,7 +1,7 @@
 -- Two rows of small numbers as one, and the halves of the sums that are made of it.
 -- A list reads as 0 past its end.
 --
---   place                   == what the second number of a pair counts: more than 127 products of numbers below 257 sum to
+--   radix                   == what the second number of a pair is multiplied by: 127 products of numbers below 257 sum to less
 --   pair a b                == a and b as one number, in 32 bits
 --   packed rows out         == the pairs of two rows, the halves of a list, as many as have room; the rest of the output as it was
 --   half upper n            == the second number of the pair n, or the first
@@ -12,11 +12,11 @@ use Prim.Native.Nat.{ℕ, _+_, _*_, _/_, _%_, _^_, min}
 use lib.ListN.{length, getD, drop}
 use Rattle.algebra.specs.Lists.{tab}
 
-abbrev pub place : ℕ
-place = 2 ^ 23
+abbrev pub radix : ℕ
+radix = 2 ^ 23
 
 abbrev pub pair : ℕ → ℕ → ℕ
-pair a b = (a + place * b) % 2 ^ 32
+pair a b = (a + radix * b) % 2 ^ 32
 
 unfoldable pub packed : List ℕ → List ℕ → List ℕ
 packed rows out =
@@ -25,7 +25,7 @@ packed rows out =
     tab (λ k. pair (getD rows k 0) (getD rows (second + k) 0)) n ++ drop n out
 
 abbrev pub half : Bool → ℕ → ℕ
-half upper n = cond upper (n / place) (n % place)
+half upper n = cond upper (n / radix) (n % radix)
 
 unfoldable pub halves : Bool → List ℕ → List ℕ
 halves upper sums = tab (λ j. half upper (getD sums j 0)) (length sums)

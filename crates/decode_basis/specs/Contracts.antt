@@ -2,7 +2,7 @@
 -- (X - x), times the inverses of x - y over the other points. The points may be any numbers: modulo q, - y is q - y % q.
 --
 --   coefficients q cs n  == the first n coefficients of cs, modulo q
---   product q ys         == the product of (X - y) over the ys
+--   rootProduct q ys     == the product of (X - y) over the ys
 --   quotient q x cs n    == the n coefficients, modulo q, of the first n + 1 of cs divided by (X - x): at e stands the value at
 --                           x of what comes after e
 --   basisScale q x ys    == the product of the inverses of x - y over the y of ys other than x, modulo q
@@ -18,9 +18,9 @@ use Rattle.algebra.specs.Polynomials.{ev, addRoot}
 unfoldable pub coefficients : ℕ → List ℕ → ℕ → List ℕ
 coefficients q cs n = tab (λ e. getD cs e 0 % q) n
 
-unfoldable pub product : ℕ → List ℕ → List ℕ
-product q [] = 1 ∷ []
-product q (y ∷ ys) = addRoot (q - y % q) (product q ys)
+unfoldable pub rootProduct : ℕ → List ℕ → List ℕ
+rootProduct q [] = 1 ∷ []
+rootProduct q (y ∷ ys) = addRoot (q - y % q) (rootProduct q ys)
 
 unfoldable pub quotient : ℕ → ℕ → List ℕ → ℕ → List ℕ
 quotient q x cs n = tab (λ e. ev (drop (suc e) (take (suc n) cs)) x % q) n
