@@ -7,7 +7,8 @@ use native.Mathlib.Omega.{arith}
 use borrow.Author.Needs.{needs}
 use lib.ListN.{length, take, drop, set}
 use lib.Seq.{lt-length-set}
-use Rattle.message_bytes.specs.Bytes.{bytesOf, common}
+use Rattle.message_bytes.specs.Bytes.{bytesOf}
+use Rattle.message_bytes.specs.Contracts.{common}
 use Rattle.message_bytes.proofs.Words.{Four, four, write-four, length-four}
 use Rattle.message_bytes.proofs.write_elements.Statement.{statement}
 use Rattle.message_bytes.proofs.write_elements.Tie as tie
@@ -49,13 +50,13 @@ bytes c =
     subst (Four (l .loop .i)) (sym (l .loop .inv .same)) (four _ _ _ (c .loop-test .taken) (l .loop .inv .room) (l .before .before .before .before .good .1 .0 .0))
 
 mul-x : tie.Need-mul-x Inv-loop μ-loop
-mul-x c = bytes c .at-fits
+mul-x c = bytes c .start-fits
 
 shared-slice-read-x : tie.Need-shared-slice-read-x Inv-loop μ-loop
 shared-slice-read-x c = omega arith
 
-mul-at : tie.Need-mul-at Inv-loop μ-loop
-mul-at c = bytes (c .before) .at-fits
+mul-start : tie.Need-mul-start Inv-loop μ-loop
+mul-start c = bytes (c .before) .start-fits
 
 low-byte-requires : tie.Need-low-byte-requires Inv-loop μ-loop
 low-byte-requires c κs = search needs
@@ -83,9 +84,9 @@ add-out-2 c = bytes (c .before .before .before .before) .two-fits
 slice-write-out-3 : tie.Need-slice-write-out-3 Inv-loop μ-loop
 slice-write-out-3 c =
     let l = c .before .before .before .before .before in
-    let at = l .loop .i * 4 in
-    lt-length-set (set (l .loop .out) at (c .before .before .low-byte .result)) (at + 1) (c .before .low-byte2 .result)
-    (lt-length-set (l .loop .out) at (c .before .before .low-byte .result) (bytes (c .before .before .before .before) .third))
+    let start = l .loop .i * 4 in
+    lt-length-set (set (l .loop .out) start (c .before .before .low-byte .result)) (start + 1) (c .before .low-byte2 .result)
+    (lt-length-set (l .loop .out) start (c .before .before .low-byte .result) (bytes (c .before .before .before .before) .third))
 
 low-byte-requires-4 : tie.Need-low-byte-requires-4 Inv-loop μ-loop
 low-byte-requires-4 c κs = search needs
@@ -96,11 +97,11 @@ add-out-3 c = bytes (c .before .before .before .before .before) .three-fits
 slice-write-out-4 : tie.Need-slice-write-out-4 Inv-loop μ-loop
 slice-write-out-4 c =
     let l = c .before .before .before .before .before .before in
-    let at = l .loop .i * 4 in
-    let first = set (l .loop .out) at (c .before .before .before .low-byte .result) in
-    lt-length-set (set first (at + 1) (c .before .before .low-byte2 .result)) (at + 2) (c .before .low-byte3 .result)
-    (lt-length-set first (at + 1) (c .before .before .low-byte2 .result)
-    (lt-length-set (l .loop .out) at (c .before .before .before .low-byte .result) (bytes (c .before .before .before .before .before) .fourth)))
+    let start = l .loop .i * 4 in
+    let first = set (l .loop .out) start (c .before .before .before .low-byte .result) in
+    lt-length-set (set first (start + 1) (c .before .before .low-byte2 .result)) (start + 2) (c .before .low-byte3 .result)
+    (lt-length-set first (start + 1) (c .before .before .low-byte2 .result)
+    (lt-length-set (l .loop .out) start (c .before .before .before .low-byte .result) (bytes (c .before .before .before .before .before) .fourth)))
 
 add-i : tie.Need-add-i Inv-loop μ-loop
 add-i c = omega arith
@@ -145,7 +146,7 @@ write-elements-spec =
     loop-holds
     mul-x
     shared-slice-read-x
-    mul-at
+    mul-start
     low-byte-requires
     slice-write-out
     low-byte-requires-2
