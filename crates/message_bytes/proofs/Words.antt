@@ -2,17 +2,14 @@
 --
 --   number-of-one, number-of-two, number-of-four    as `words` reads them
 --   length-elements, element-is                     the elements of bytes, one by one
---   Four i room, four                               the four bytes of element i lie in a list of so many bytes
 --   write-four, length-four                         one more element is written as its four bytes; the output stays as long
 --   written-exact                                   elements written where they just fit
 use mathlib.Core.Path.{_≡_, sym, ap, ap₂, _∙_}
 use mathlib.Core.List.{List, [], _∷_, _++_, append-nil}
-use Prim.Native.Nat.{ℕ, suc, _+_, _*_, _/_, _%_, _^_, _<_, _≤_, min}
+use Prim.Native.Nat.{ℕ, suc, _+_, _*_, _/_, _%_, _<_, _≤_, min}
 use native.Mathlib.Nat.{add-zero}
 use native.Mathlib.Numerals.{add-one}
 use native.Mathlib.Omega.{arith}
-use mir.Syntax.{w64}
-use mir.Val.{Fits}
 use lib.ListN.{length, getD, take, drop, set, length-set, drop-of-length-le}
 use lib.Seq.{take-suc, take-length, take-at, drop-drop, drop-append-add, length-take-le, sets-eq}
 use Rattle.algebra.proofs.Lists.{length-tab, getD-tab}
@@ -41,28 +38,6 @@ length-elements n bytes = length-tab (λ (i : ℕ). numberAt bytes (i * 4) 4) n
 pub element-is : (n : ℕ) (bytes : List ℕ) (i : ℕ) → i < n → getD (elementsOf n bytes) i 0 ≡ numberAt bytes (i * 4) 4
 unfolding elementsOf
 element-is n bytes i h = getD-tab (λ (k : ℕ). numberAt bytes (k * 4) 4) n i 0 h
-
-pub record Four (i room : ℕ) : Type 0 where
-  pub start-fits : Fits w64 (i * 4)
-  pub one-fits : Fits w64 (i * 4 + 1)
-  pub two-fits : Fits w64 (i * 4 + 2)
-  pub three-fits : Fits w64 (i * 4 + 3)
-  pub first : i * 4 < room
-  pub second : i * 4 + 1 < room
-  pub third : i * 4 + 2 < room
-  pub fourth : i * 4 + 3 < room
-
-pub four : (i n room : ℕ) → i < n → n * 4 ≤ room → room < 2 ^ 64 → Four i room
-four i n room h enough small = record {
-  start-fits = record { fits = omega arith };
-  one-fits = record { fits = omega arith };
-  two-fits = record { fits = omega arith };
-  three-fits = record { fits = omega arith };
-  first = omega arith;
-  second = omega arith;
-  third = omega arith;
-  fourth = omega arith;
-}
 
 bytes-of-four : (x : ℕ) → bigEndian 4 x ≡ x / 16777216 % 256 ∷ x / 65536 % 256 ∷ x / 256 % 256 ∷ x % 256 ∷ []
 unfolding bigEndian
