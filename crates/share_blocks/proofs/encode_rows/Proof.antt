@@ -1,5 +1,5 @@
 -- `share_blocks::encode_rows` meets its contract.
-use mathlib.Core.Path.{_≡_, refl, sym, ap, _∙_}
+use mathlib.Core.Path.{_≡_, refl, ap, _∙_}
 use mathlib.Core.List.{List, _++_}
 use Prim.Native.Nat.{ℕ, _+_, _-_, _*_, _^_, _%_, _≤_}
 use native.Mathlib.Nat.{add-sub-cancel-left}
