@@ -43,10 +43,7 @@ fn length_test(rows: u32, inner: u32, columns: u32, a: usize, b: usize, out: usi
 fn element_test(modulus: Modulus, a: &[u32], b: &[u32]) -> bool
     ensures { λ r. ⌜ r ≡ (not (allBelow (prime modulus) (now (a .entry))) || not (allBelow (prime modulus) (now (b .entry)))) ⌝ }
 {
-    either(
-        !field::all_below(modulus, a),
-        !field::all_below(modulus, b),
-    )
+    either(!field::all_below(modulus, a), !field::all_below(modulus, b))
 }
 
 // One row of the product: the elements of A's row are the weights of B's rows. There is a sum for each element of the output.
