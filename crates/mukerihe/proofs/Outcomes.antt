@@ -20,7 +20,8 @@ use Rattle.refusal.specs.Limits.{mostElements, sizesOutside, overBlock}
 use Rattle.refusal.proofs.Chains.{first-clear, unless-done, unless-refused}
 use Rattle.refusal.proofs.Limits.{within-all, blocks-fit}
 use Rattle.field.specs.Modulus.{modulus}
-use Rattle.message_bytes.specs.Bytes.{bytesOf, elementsOf, common}
+use Rattle.message_bytes.specs.Bytes.{bytesOf, elementsOf}
+use Rattle.message_bytes.specs.Contracts.{common}
 use Rattle.message_bytes.proofs.Words.{length-elements, written-exact}
 use Rattle.product.specs.Product.{productOf, productTests, productAfter}
 use Rattle.mukerihe.specs.Host.{hostTests, hostProduct, hostAfter}
