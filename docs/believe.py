@@ -60,6 +60,11 @@ def words_of(lines):
     return {word.split(".")[0] for word in re.findall(r"[^\s(){};,λ→]+", code) if not word.startswith(".")}
 
 
+def stands(name, words):
+    """A name stands among some words; of an operator, each of its parts does."""
+    return all(part in words for part in name.split("_") if part)
+
+
 def read_all():
     """The files of specs/ by crate and module, and the structs and enums of the code by crate and name."""
     files, types = {}, {}
@@ -102,14 +107,12 @@ def believed():
             continue
         lines = file.definitions[name]
         seen[crate, module, name] = (file.path, name, lines)
-        for word in words_of(lines):
-            if word in file.definitions:
-                left.append((crate, module, word))
-            elif word in file.brings:
-                home, what = file.brings[word]
-                m = OURS.match(home)
-                if m:
-                    left.append((m[1], m[2], what))
+        words = words_of(lines)
+        left += [(crate, module, other) for other in file.definitions if stands(other, words)]
+        for other, (home, what) in file.brings.items():
+            m = OURS.match(home)
+            if m and stands(other, words):
+                left.append((m[1], m[2], what))
     return seen.values(), files
 
 

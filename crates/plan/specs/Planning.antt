@@ -89,9 +89,8 @@ member x (y ∷ ys) = eqb x y || member x ys
 -- 10 and 11 of the point at i: it is 0 or not below q; it equals an earlier one
 unfoldable pub pointTestsAt : ℕ → List ℕ → ℕ → List Test
 pointTestsAt q points i =
-    (eqb (getD points i 0) 0 || leb q (getD points i 0), 10)
-    ∷ (member (getD points i 0) (take i points), 11)
-    ∷ []
+    let x = getD points i 0 in
+    (eqb x 0 || leb q x, 10) ∷ (member x (take i points), 11) ∷ []
 
 -- point by point
 unfoldable pub allPointTests : ℕ → List ℕ → ℕ → List Test

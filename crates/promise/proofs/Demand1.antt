@@ -4,6 +4,7 @@
 --   called     a call that returns that number
 --   tells      an outcome by that number, on paper
 --   demand-1   the demand holds
+--   other-calls  the calls that it does not name are judged so, too
 use mathlib.Core.Path.{_≡_, refl, sym, ap, _∙_, subst}
 use mathlib.Core.Bool.{true, false, not, true≢false}
 use mathlib.Core.List.{List, [], _∷_, _++_}
@@ -34,6 +35,7 @@ use Rattle.field.proofs.Moduli.{told-named}
 use Rattle.field_signed.specs.Signed.{signedTests, elementTests}
 use Rattle.field_signed.proofs.Outcomes.{signed-told, element-told}
 use Rattle.promise.specs.Demand1.{test, Judged, Call, Tells, Demand1}
+use Rattle.promise.specs.OtherCalls.{OtherCalls}
 
 pub judged : (tests : List Test) → T (numbered tests) → Judged tests (first tests)
 unfolding first numbered
@@ -100,7 +102,7 @@ after-plan : (job : Job) (points : List ℕ) (tests : List Test) → T (numbered
 after-plan job points tests = numbered-append (planTests job points) tests (plan-numbered job points)
 
 pub demand-1 : Demand1
-unfolding shareTests matrixTests shareAfter productTests productAfter hostTests hostAfter fieldTests writeTests messageTests headerTests readTests written readInto stateTests answerTests arrivalTests storeAfter decodeTests tableTests tableAfter signedTests elementTests numbered
+unfolding shareTests matrixTests shareAfter productTests productAfter hostTests hostAfter fieldTests writeTests messageTests headerTests readTests written readInto stateTests answerTests arrivalTests storeAfter decodeTests tableTests tableAfter numbered
 demand-1 = record {
   plan = λ job points. tells (planTests job points) _ (plan-numbered job points) (plan-told job points);
   share = λ m job points host xs ms out. called _ _ _ (after-plan job points _ tt) refl;
@@ -116,6 +118,11 @@ demand-1 = record {
     heard-kept job points heard store message,
   );
   decode = λ job points heard store table. called _ _ _ (after-plan job points _ tt) refl;
+}
+
+pub other-calls : OtherCalls
+unfolding signedTests elementTests numbered
+other-calls = record {
   signed-reading = λ n v. tells _ _ tt (signed-told n v);
   way-back = λ n z. tells _ _ tt (element-told n z);
   naming = λ n. tells _ _ tt (told-named n);

@@ -13,13 +13,11 @@
 use mathlib.Core.Path.{_≡_}
 use mathlib.Core.Bool.{true, false}
 use mathlib.Core.Logic.{_↔_}
-use mathlib.Core.List.{List, [], _∷_, _++_}
+use mathlib.Core.List.{List, [], _++_}
 use Prim.Native.Nat.{ℕ, _<_}
-use lib.IntN.{ℤ}
 use lib.ListN.{length, getD, drop}
 use Rattle.refusal.specs.Chain.{Test, first, Told}
-use Rattle.field.specs.Modulus.{modulus, noModulus, named}
-use Rattle.field.specs.Modulus.{told as Modulus·told}
+use Rattle.field.specs.Modulus.{modulus}
 use Rattle.plan.specs.declared.Job.{Job}
 use Rattle.plan.specs.Planning.{planTests, planned, planValues}
 use Rattle.plan.specs.Planning.{told as Planning·told}
@@ -34,7 +32,6 @@ use Rattle.message.specs.Format.{told as Format·told}
 use Rattle.arrival_heard.specs.Heard.{withHost}
 use Rattle.arrival.specs.Arriving.{answerLength, withBlock, hostIndex, arrivalTests, arrived, storeAfter, numberOf, heardAfter}
 use Rattle.decode.specs.Decoding.{tableOf, decodeTests, tableAfter}
-use Rattle.field_signed.specs.Signed.{signed, element, signedTests, elementTests, signedOutcome, elementOutcome, signedTold, elementTold}
 
 -- there is none past the end
 abbrev pub test : List Test → ℕ → Test
@@ -82,7 +79,3 @@ pub record Demand1 : Type 0 where
   pub decode : (job : Job) (points : List ℕ) (heard : ℕ) (store table : List ℕ)
       → let tests = decodeTests job points heard store (length table) in
       Call tests (first tests) (tableAfter job points heard store table) (tableOf job points heard store) table
-  -- Calls that the demand does not name. Signed reading and its way back; a modulus number names its modulus.
-  pub signed-reading : (n v : ℕ) → Tells (signedTests n v) (signedTold (signedOutcome n v)) (signed (modulus n) v ∷ [])
-  pub way-back : (n : ℕ) (z : ℤ) → Tells (elementTests n z) (elementTold (elementOutcome n z)) (element (modulus n) z ∷ [])
-  pub naming : (n : ℕ) → Tells ((noModulus n, 1) ∷ []) (Modulus·told (named n)) (n ∷ [])
