@@ -100,4 +100,4 @@ pub record Weighted (s : Shape) (indices weights : List ℕ) : Type 0 where
 
 pub record There (weights : List ℕ) (step : ℕ) (indices : List ℕ) (size : ℕ) : Type 0 where
   pub weight : (c : ℕ) → c < length indices → c * step < length weights
-  pub short : size ≤ 16777216
+  pub short : size ≤ mostElements * mostElements

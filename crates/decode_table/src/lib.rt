@@ -50,7 +50,7 @@ fn misfit(s: Shape, count: usize, weights: usize, sums: usize, room: usize) -> b
 
 // The answer of an index, and all that lies behind it.
 fn answer_at(source: &[u32], index: u32, size: usize) -> &[u32]
-    requires { ⌜ size ≤ 16777216 ⌝ }
+    requires { ⌜ size ≤ mostElements * mostElements ⌝ }
     ensures { λ r. ⌜ now r ≡ drop (index * size) (now (source .entry)) ⌝ }
 {
     let start = least(index as usize * size, source.len());
