@@ -75,7 +75,10 @@ fn put_block(place: usize, size: usize, message: &[u8], store: &mut [u32])
 {
     let start = place * size;
     let end = start + size;
-    message_bytes::read_elements(&message[message_header::HEADER_BYTES..], &mut store[start..end]);
+    message_bytes::read_elements(
+        &message[message_header::HEADER_BYTES..],
+        &mut store[start..end],
+    );
 }
 
 // Takes a message when the plan, the hosts heard and the store have passed: its block is written and its host counts as heard,

@@ -1,4 +1,4 @@
--- The lister's text always has room in 4096 bytes.
+-- The lister's text always has room.
 --
 --   row-length, grid-length    each value takes at most six bytes
 --   refused-room               the line of a refusal
@@ -26,7 +26,7 @@ use Rattle.plan.proofs.Facts.{Fits, facts}
 use Rattle.text.specs.Decimal.{decimal}
 use Rattle.text.proofs.Decimals.{decimal-length, decimal-short}
 use Rattle.lister_line.specs.Line.{lineOf}
-use Rattle.lister.specs.Listing.{ascii, value, values, line, sideLine, numberLines, aLine, bLine, cLine, planText, refusedText, jobOf, told, reply, listing}
+use Rattle.lister.specs.Listing.{ascii, value, values, line, sideLine, numberLines, aLine, bLine, cLine, planText, refusedText, jobOf, replyText, reply, listing, listingRoom}
 use Rattle.lister.proofs.Writes.{row-more, grid-more, line-one}
 
 value-length : (n : ℕ) → n < 100000 → length (value n) ≤ 6
@@ -71,7 +71,7 @@ one-length label n =
       decimal-length n,
     )
 
-refused-room : (n : ℕ) → length (refusedText n) ≤ 4096
+refused-room : (n : ℕ) → length (refusedText n) ≤ listingRoom
 unfolding refusedText
 refused-room n = omega (arith, one-length (ascii "REFUSED") n)
 
@@ -123,8 +123,8 @@ module _ (job : Job) (fits : Fits job) where
         arith,
         side-length (ascii "A") (grid (term e BlocksA) (job .m) (job .p)) (tab (term e MasksA 0) (job .xa)),
         grid-room (term e BlocksA) (job .m) (job .p) (fits .ranged .m .high) (fits .ranged .p .high)
-            (λ i j hi hj. omega (arith, s .below i j j 0 hi hj hj (cut .n), few)),
-        row-length (term e MasksA 0) (job .xa) (λ x hx. omega (arith, s .belowA x 0 0 hx (cut .p) (cut .n), few)),
+            (λ i j hi hj. omega (arith, s .bounded .below i j j 0 hi hj hj (cut .n), few)),
+        row-length (term e MasksA 0) (job .xa) (λ x hx. omega (arith, s .bounded .belowA x 0 0 hx (cut .p) (cut .n), few)),
         fits .ranged .xa .high,
       )
 
@@ -135,8 +135,8 @@ module _ (job : Job) (fits : Fits job) where
         arith,
         side-length (ascii "B") (grid (term e BlocksB) (job .p) (job .n)) (tab (term e MasksB 0) (job .xb)),
         grid-room (term e BlocksB) (job .p) (job .n) (fits .ranged .p .high) (fits .ranged .n .high)
-            (λ l j hl hj. omega (arith, s .below 0 l l j (cut .m) hl hl hj, few)),
-        row-length (term e MasksB 0) (job .xb) (λ y hy. omega (arith, s .belowB 0 0 y (cut .m) (cut .p) hy, few)),
+            (λ l j hl hj. omega (arith, s .bounded .below 0 l l j (cut .m) hl hl hj, few)),
+        row-length (term e MasksB 0) (job .xb) (λ y hy. omega (arith, s .bounded .belowB 0 0 y (cut .m) (cut .p) hy, few)),
         fits .ranged .xb .high,
       )
 
@@ -147,7 +147,7 @@ module _ (job : Job) (fits : Fits job) where
         arith,
         line-length (ascii "C") (grid (term e Places) (job .m) (job .n)),
         grid-room (term e Places) (job .m) (job .n) (fits .ranged .m .high) (fits .ranged .n .high)
-            (λ u v hu hv. omega (arith, s .meet u 0 v hu (cut .p) hv, s .below u 0 0 v hu (cut .p) (cut .p) hv, few)),
+            (λ u v hu hv. omega (arith, s .meet u 0 v hu (cut .p) hv, s .bounded .below u 0 0 v hu (cut .p) (cut .p) hv, few)),
       )
 
   number-room : length (numberLines (job .hosts) (planOf job)) ≤ 100
@@ -168,7 +168,7 @@ module _ (job : Job) (fits : Fits job) where
         one-length (ascii "NEEDED") (neededOf job),
       )
 
-  plan-room : length (planText (job .hosts) (planOf job)) ≤ 4096
+  plan-room : length (planText (job .hosts) (planOf job)) ≤ listingRoom
   unfolding planText planOf g
   plan-room =
       let n = numberLines (job .hosts) (planOf job) in
@@ -177,18 +177,18 @@ module _ (job : Job) (fits : Fits job) where
       let c = cLine (layoutOf job) g in
       omega (arith, length-append n (a ++ (b ++ c)), length-append a (b ++ c), length-append b c, number-room, a-room, b-room, c-room)
 
-reply-room : (job : Job) → length (reply job) ≤ 4096
-unfolding reply told planned outcome
+reply-room : (job : Job) → length (reply job) ≤ listingRoom
+unfolding reply replyText planned outcome
 reply-room job = go (first (planTests job (tab suc (job .hosts)))) refl
   where
-    go : (n : ℕ) → first (planTests job (tab suc (job .hosts))) ≡ n → length (told (job .hosts) (outcome n (Accepted (planOf job)) Refused)) ≤ 4096
+    go : (n : ℕ) → first (planTests job (tab suc (job .hosts))) ≡ n → length (replyText (job .hosts) (outcome n (Accepted (planOf job)) Refused)) ≤ listingRoom
     go zero e = plan-room job (facts job (tab suc (job .hosts)) e .fits)
     go (suc n) e = refused-room (suc n)
 
-pub room : (input : List ℕ) → length (listing input) ≤ 4096
+pub room : (input : List ℕ) → length (listing input) ≤ listingRoom
 unfolding listing
 room input = go (lineOf input .ok)
   where
-    go : (b : Bool) → length (cond b (reply (jobOf (lineOf input .numbers))) (refusedText 26)) ≤ 4096
+    go : (b : Bool) → length (cond b (reply (jobOf (lineOf input .numbers))) (refusedText 26)) ≤ listingRoom
     go true = reply-room (jobOf (lineOf input .numbers))
     go false = refused-room 26

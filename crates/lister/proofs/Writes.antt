@@ -4,6 +4,7 @@
 --   writes-nothing   no text
 --   then             a text and another after it
 --   same             a text by another name
+--   lists            a text at the front of a listing's buffer
 --   values-append, values-snoc, line-one   the values of two lists, one value more, a line of one value
 --   row-more, grid-more    the values of a row and of a grid grow part by part
 use mathlib.Core.Path.{_≡_, refl, sym, ap, _∙_, subst}
@@ -12,16 +13,18 @@ use Prim.Native.Nat.{ℕ, suc, _+_, _≤_}
 use native.Mathlib.Omega.{arith}
 use lib.ListN.{length, length-append}
 use lib.Seq.{paste-zero}
+use borrow.Author.Tests.{le-leb}
 use Rattle.algebra.specs.Lists.{tab, grid}
-use Rattle.text.specs.Decimal.{put, after}
-use Rattle.text.proofs.Puts.{put-fits, after-fits, length-put, put-put}
-use Rattle.lister.specs.Listing.{ascii, value, values, line}
-use Rattle.lister.specs.Writing.{Writes}
+use Rattle.text.specs.Contracts.{fits, put, after}
+use Rattle.text.proofs.Puts.{put-fits, after-fits, after-within, length-put, put-put}
+use Rattle.lister.specs.Listing.{ascii, value, values, line, listingRoom}
+use Rattle.lister.specs.Contracts.{Lists, Writes}
 
 pub writes : (out : List ℕ) (at : ℕ) (text : List ℕ) {exit : List ℕ} {end : ℕ} → (end ≡ after at text out) × (exit ≡ put out at text)
     → Writes out at text exit end
 writes out at text e = record {
   kept = ap length (e .1) ∙ length-put out at text;
+  within = λ h. omega (arith, e .0, after-within out at text h);
   is = λ fits. e .1;
   behind = λ fits. e .0 ∙ after-fits out at text fits;
 }
@@ -29,13 +32,17 @@ writes out at text e = record {
 pub writes-nothing : (out : List ℕ) (at : ℕ) → Writes out at [] out at
 writes-nothing out at = record {
   kept = refl;
+  within = λ h. h;
   is = λ fits. paste-zero out at [] ∙ sym (put-fits out at [] fits);
   behind = λ fits. omega arith;
 }
 
 pub then : {a b c xs ys : List ℕ} {at e f : ℕ} → Writes a at xs b e → Writes b e ys c f → Writes a at (xs ++ ys) c f
-then {a} {b} {c} {xs} {ys} {at} {e} {f} p q = record { kept = q .kept ∙ p .kept; is = is; behind = behind }
+then {a} {b} {c} {xs} {ys} {at} {e} {f} p q = record { kept = q .kept ∙ p .kept; within = within; is = is; behind = behind }
   where
+    within : at ≤ length a → f ≤ length a
+    within h = omega (arith, q .within (omega (arith, p .within h, p .kept)), p .kept)
+
     both : at + length (xs ++ ys) ≤ length a → (at + length xs ≤ length a) × (at + length xs + length ys ≤ length a)
     both h = omega (arith, length-append xs ys)
 
@@ -55,6 +62,17 @@ then {a} {b} {c} {xs} {ys} {at} {e} {f} p q = record { kept = q .kept ∙ p .kep
 
 pub same : {a b text : List ℕ} {at e : ℕ} {other : List ℕ} → text ≡ other → Writes a at text b e → Writes a at other b e
 same {a} {b} {text} {at} {e} s w = subst (λ (l : List ℕ). Writes a at l b e) s w
+
+pub lists : {out text exit : List ℕ} {end : ℕ} → listingRoom ≤ length out → Writes out 0 text exit end → Lists out text exit end
+unfolding put fits
+lists {out} {text} large w = record {
+  within = omega (arith, w .within (omega arith), w .kept);
+  is = λ h.
+      let fit : 0 + length text ≤ length out = omega arith in
+      let none : 0 + length text ≡ length text = omega arith in
+      w .is fit ∙ rw (le-leb (0 + length text) (length out) fit, none);
+  long = λ h. omega (arith, w .behind (omega arith));
+}
 
 pub values-append : (xs ys : List ℕ) → values (xs ++ ys) ≡ values xs ++ values ys
 unfolding values

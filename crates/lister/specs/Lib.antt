@@ -1,4 +1,4 @@
 -- The plan lister: the text of a plan.
 pub mod Listing
 pub mod Prints
-pub mod Writing
+pub mod Contracts

@@ -1,17 +1,18 @@
 -- The plan lister (01, "The plan lister").
 --
---   ascii s              == the bytes of a text
---   values ns            == the numbers in decimal, each after a space
---   line label ns        == a line: its label, then its values
---   sideLine             == a side's line: the exponents of its blocks, a bar, then those of its masks
---   numberLines          == the lines of q, layout, N and K
---   aLine, bLine, cLine  == the lines of A, of B and of C
---   planText hosts plan  == the seven lines of a plan
---   refusedText n        == the line of a refusal
---   jobOf ns             == the job of the ten numbers of a line
---   told hosts answer    == the text of what planning answers
---   reply job            == what is printed for a job, with the points 1..N
---   listing input        == what is printed for an input: 26 comes before all others
+--   ascii s                     == the bytes of a text
+--   value n, values ns          == a number in decimal after a space, and numbers so
+--   line label ns               == a line: its label, then its values
+--   sideLine label blocks masks == the line of a side: the exponents of its blocks, a bar, then those of its masks
+--   numberLines hosts plan      == the lines of q, layout, N and K
+--   aLine, bLine, cLine         == the lines of A, of B and of C
+--   planText hosts plan         == the seven lines of a plan
+--   refusedText n               == the line of a refusal
+--   jobOf ns                    == the job of the ten numbers of a line
+--   replyText hosts planned     == the text of what planning returns
+--   reply job                   == what is printed for a job, with the points 1..N
+--   listing input               == what is printed for an input: 26 comes before all others
+--   listingRoom                 == the bytes in which every listing has room
 use mathlib.Core.Bool.{cond}
 use mathlib.Core.List.{List, [], _∷_, _++_}
 use Prim.Native.Nat.{ℕ, suc}
@@ -99,12 +100,15 @@ jobOf ns = record {
   number = 0;
 }
 
-unfoldable pub told : ℕ → Planned → List ℕ
-told hosts (Accepted plan) = planText hosts plan
-told hosts (Refused n) = refusedText n
+unfoldable pub replyText : ℕ → Planned → List ℕ
+replyText hosts (Accepted plan) = planText hosts plan
+replyText hosts (Refused n) = refusedText n
 
 unfoldable pub reply : Job → List ℕ
-reply job = told (job .hosts) (planned job (tab suc (job .hosts)))
+reply job = replyText (job .hosts) (planned job (tab suc (job .hosts)))
 
 unfoldable pub listing : List ℕ → List ℕ
 listing input = let l = lineOf input in cond (l .ok) (reply (jobOf (l .numbers))) (refusedText 26)
+
+abbrev pub listingRoom : ℕ
+listingRoom = 4096

@@ -1,41 +1,45 @@
 // The plan lister: reads a job's ten numbers as a line of text, and gives the text of its plan.
+// A function put_.. writes from an offset of the buffer on and returns the offset behind.
 ghost use mathlib.Core.Path.{_≡_};
-ghost use mathlib.Core.List.{_∷_, []};
+ghost use mathlib.Core.List.{_∷_, [], _++_};
 ghost use Prim.Native.Nat.{suc, _≤_};
-ghost use lib.ListN.{length};
+ghost use lib.ListN.{length, drop};
 ghost use Rattle.algebra.specs.Lists.{tab, grid};
-ghost use Rattle.layout.specs.Exponents.{exponents, number, term};
+ghost use Rattle.layout.specs.Exponents.{number};
+ghost use Rattle.layout.specs.Contracts.{exponentBy};
 ghost use Rattle.plan.specs.Planning.{planned};
-ghost use Rattle.text.specs.Decimal.{put};
 ghost use Rattle.lister.specs.Listing.{
-  ascii,
   value,
   values,
   line,
-  sideLine,
   numberLines,
-  cLine,
   planText,
   refusedText,
   jobOf,
   listing,
 };
-ghost use Rattle.lister.specs.Writing.{Writes, sideText};
+ghost use Rattle.lister.specs.Contracts.{Lists, Writes, sideText, placesText};
 use layout::Layout;
-use layout::Parameters;
 use layout::Series;
+use layout::Strides;
 use plan::Job;
 use plan::Plan;
 use plan::Planned;
 
-// What a side's line shows: its label, the series of its blocks, rows by columns, and that of its masks.
-struct Side {
+// The bytes in which every listing has room.
+pub const LISTING_ROOM: usize = 4096;
+
+// The most points that a job has.
+const MOST_POINTS: usize = refusal::MOST_HOSTS as usize;
+
+// What the line of a side shows: its label, the series of its blocks, so many down and across, and that of its masks.
+struct SideLine {
     label: u8,
     blocks: Series,
-    rows: u8,
-    columns: u8,
+    grid_rows: u8,
+    grid_columns: u8,
     masks: Series,
-    count: u8,
+    mask_count: u8,
 }
 
 // The layout's number on the sheet.
@@ -48,7 +52,7 @@ fn number_of(layout: Layout) -> u32
     }
 }
 
-// A space and the number.
+// Writes a space and the number.
 fn put_value(out: &mut [u8], at: usize, n: u32) -> usize
     ensures { λ r. ⌜ Writes (now (out .entry)) at (value n) (now (out .exit)) r ⌝ }
 {
@@ -56,7 +60,7 @@ fn put_value(out: &mut [u8], at: usize, n: u32) -> usize
     text::put_decimal(out, next, n)
 }
 
-// A label, one value, and the line's end.
+// Writes a label, one value, and the line's end.
 fn put_line(out: &mut [u8], at: usize, label: &[u8], n: u32) -> usize
     ensures { λ r. ⌜ Writes (now (out .entry)) at (line (now (label .entry)) (n ∷ [])) (now (out .exit)) r ⌝ }
 {
@@ -65,72 +69,56 @@ fn put_line(out: &mut [u8], at: usize, label: &[u8], n: u32) -> usize
     text::put_bytes(out, b, b"\n")
 }
 
-// The values of one row of a series.
-fn put_row(
-    out: &mut [u8],
-    at: usize,
-    series: Series,
-    layout: Layout,
-    g: Parameters,
-    i: u8,
-    columns: u8,
-) -> usize
-    ensures { λ r. ⌜ Writes (now (out .entry)) at (values (tab (term (exponents layout g) series i) columns)) (now (out .exit)) r ⌝ }
+// Writes the values of one row of a series.
+fn put_row(out: &mut [u8], at: usize, series: Series, s: Strides, i: u8, columns: u8) -> usize
+    ensures { λ r. ⌜ Writes (now (out .entry)) at (values (tab (exponentBy s series i) columns)) (now (out .exit)) r ⌝ }
 {
     let mut next = at;
     let mut j = 0;
     while j < columns {
-        next = put_value(out, next, layout::exponent_of(series, layout, g, i, j));
+        next = put_value(out, next, layout::exponent_of(series, s, i, j));
         j += 1;
     }
     next
 }
 
-// The values of a series, row by row.
-fn put_grid(
-    out: &mut [u8],
-    at: usize,
-    series: Series,
-    layout: Layout,
-    g: Parameters,
-    rows: u8,
-    columns: u8,
-) -> usize
-    ensures { λ r. ⌜ Writes (now (out .entry)) at (values (grid (term (exponents layout g) series) rows columns)) (now (out .exit)) r ⌝ }
+// Writes the values of a series, row by row.
+fn put_grid(out: &mut [u8], at: usize, series: Series, s: Strides, rows: u8, columns: u8) -> usize
+    ensures { λ r. ⌜ Writes (now (out .entry)) at (values (grid (exponentBy s series) rows columns)) (now (out .exit)) r ⌝ }
 {
     let mut next = at;
     let mut i = 0;
     while i < rows {
-        next = put_row(out, next, series, layout, g, i, columns);
+        next = put_row(out, next, series, s, i, columns);
         i += 1;
     }
     next
 }
 
-// A side's line: the exponents of its blocks, a bar, and those of its masks.
-fn put_side(out: &mut [u8], at: usize, side: Side, layout: Layout, g: Parameters) -> usize
-    ensures { λ r. ⌜ Writes (now (out .entry)) at (sideText side layout g) (now (out .exit)) r ⌝ }
+// Writes the line of a side: the exponents of its blocks, a bar, and those of its masks.
+fn put_side(out: &mut [u8], at: usize, line: SideLine, s: Strides) -> usize
+    ensures { λ r. ⌜ Writes (now (out .entry)) at (sideText line s) (now (out .exit)) r ⌝ }
 {
-    let label = [side.label];
-    let blocks = side.blocks;
-    let masks = side.masks;
+    let label = [line.label];
+    let blocks = line.blocks;
+    let masks = line.masks;
     let a = text::put_bytes(out, at, &label);
-    let b = put_grid(out, a, blocks, layout, g, side.rows, side.columns);
+    let b = put_grid(out, a, blocks, s, line.grid_rows, line.grid_columns);
     let c = text::put_bytes(out, b, b" |");
-    let d = put_row(out, c, masks, layout, g, 0, side.count);
+    let d = put_row(out, c, masks, s, 0, line.mask_count);
     text::put_bytes(out, d, b"\n")
 }
 
-// The line of C: the places of its blocks.
-fn put_places(out: &mut [u8], at: usize, layout: Layout, g: Parameters) -> usize
-    ensures { λ r. ⌜ Writes (now (out .entry)) at (cLine layout g) (now (out .exit)) r ⌝ }
+// Writes the line of C: the places of its blocks.
+fn put_places(out: &mut [u8], at: usize, s: Strides, rows: u8, columns: u8) -> usize
+    ensures { λ r. ⌜ Writes (now (out .entry)) at (placesText s rows columns) (now (out .exit)) r ⌝ }
 {
     let a = text::put_bytes(out, at, b"C");
-    let b = put_grid(out, a, Series::Places, layout, g, g.m, g.n);
+    let b = put_grid(out, a, Series::Places, s, rows, columns);
     text::put_bytes(out, b, b"\n")
 }
 
-// The lines of the prime, the layout, the hosts and the answers needed.
+// Writes the lines of the prime, the layout, the hosts and the answers needed, to the front of the buffer.
 fn put_numbers(out: &mut [u8], hosts: u32, plan: Plan) -> usize
     ensures { λ r. ⌜ Writes (now (out .entry)) 0 (numberLines hosts plan) (now (out .exit)) r ⌝ }
 {
@@ -142,37 +130,39 @@ fn put_numbers(out: &mut [u8], hosts: u32, plan: Plan) -> usize
     put_line(out, c, b"NEEDED", plan.needed)
 }
 
-// The seven lines of a plan.
-fn put_plan(out: &mut [u8], hosts: u32, plan: Plan) -> usize
-    ensures { λ r. ⌜ Writes (now (out .entry)) 0 (planText hosts plan) (now (out .exit)) r ⌝ }
+// Writes the seven lines of a plan to the front of the buffer, and returns their length. Every plan that planning makes has
+// room.
+pub fn list_plan(hosts: u32, plan: Plan, out: &mut [u8; LISTING_ROOM]) -> usize
+    ensures { λ r. ⌜ Lists (now (out .entry)) (planText hosts plan) (now (out .exit)) r ⌝ }
 {
     let layout = plan.layout;
     let g = plan.parameters;
-    let side_a = Side {
+    let strides = layout::strides_of(layout, g);
+    let line_a = SideLine {
         label: b'A',
         blocks: Series::BlocksA,
-        rows: g.m,
-        columns: g.p,
+        grid_rows: g.m,
+        grid_columns: g.p,
         masks: Series::MasksA,
-        count: g.xa,
+        mask_count: g.xa,
     };
-    let side_b = Side {
+    let line_b = SideLine {
         label: b'B',
         blocks: Series::BlocksB,
-        rows: g.p,
-        columns: g.n,
+        grid_rows: g.p,
+        grid_columns: g.n,
         masks: Series::MasksB,
-        count: g.xb,
+        mask_count: g.xb,
     };
     let a = put_numbers(out, hosts, plan);
-    let b = put_side(out, a, side_a, layout, g);
-    let c = put_side(out, b, side_b, layout, g);
-    put_places(out, c, layout, g)
+    let b = put_side(out, a, line_a, strides);
+    let c = put_side(out, b, line_b, strides);
+    put_places(out, c, strides, g.m, g.n)
 }
 
-// The line of a refusal.
-fn put_refused(out: &mut [u8], n: u32) -> usize
-    ensures { λ r. ⌜ Writes (now (out .entry)) 0 (refusedText n) (now (out .exit)) r ⌝ }
+// Writes the line of a refusal to the front of the buffer, and returns its length.
+fn put_refused(out: &mut [u8; LISTING_ROOM], n: u32) -> usize
+    ensures { λ r. ⌜ Lists (now (out .entry)) (refusedText n) (now (out .exit)) r ⌝ }
 {
     put_line(out, 0, b"REFUSED", n)
 }
@@ -197,12 +187,12 @@ fn job_of(numbers: [u32; 10]) -> Job
 }
 
 // The points 1 to 64.
-fn all_points() -> [u32; 64]
+fn all_points() -> [u32; MOST_POINTS]
     ensures { λ r. ⌜ r ≡ tab suc 64 ⌝ }
 {
-    let mut points = [0u32; 64];
+    let mut points = [0u32; MOST_POINTS];
     let mut i: u32 = 0;
-    while i < 64 {
+    while i < refusal::MOST_HOSTS {
         points[i as usize] = i + 1;
         i += 1;
     }
@@ -214,19 +204,19 @@ fn plan_of(job: Job) -> Planned
     ensures { λ r. ⌜ r ≡ planned job (tab suc (job .hosts)) ⌝ }
 {
     let points = all_points();
-    if job.hosts < 64 {
+    if job.hosts < refusal::MOST_HOSTS {
         let hosts = job.hosts as usize;
         return plan::plan_job(job, &points[..hosts]);
     }
     plan::plan_job(job, &points)
 }
 
-// What the lister prints for an input: the text goes to the front of the buffer, which always has room for it, and the
-// answer is its length.
-pub fn list(input: &[u8], out: &mut [u8; 4096]) -> usize
+// What the lister prints for an input: the text goes to the front of the buffer, which always has room for it, and its length is
+// returned.
+pub fn list(input: &[u8], out: &mut [u8; LISTING_ROOM]) -> usize
     ensures room { λ r. ⌜ r ≤ length (now (out .exit)) ⌝ }
     ensures length { λ r. ⌜ r ≡ length (listing (now (input .entry))) ⌝ }
-    ensures text { λ _. ⌜ now (out .exit) ≡ put (now (out .entry)) 0 (listing (now (input .entry))) ⌝ }
+    ensures text { λ _. let text = listing (now (input .entry)) in ⌜ now (out .exit) ≡ text ++ drop (length text) (now (out .entry)) ⌝ }
 {
     let line = lister_line::read_line(input);
     if !line.ok {
@@ -235,7 +225,7 @@ pub fn list(input: &[u8], out: &mut [u8; 4096]) -> usize
     let numbers = line.numbers;
     let job = job_of(numbers);
     match plan_of(job) {
-        Planned::Accepted(plan) => put_plan(out, job.hosts, plan),
+        Planned::Accepted(plan) => list_plan(job.hosts, plan, out),
         Planned::Refused(n) => put_refused(out, n),
     }
 }

@@ -8,20 +8,20 @@ use mathlib.Core.Bool.{Bool, true, false, not, _||_, true≢false}
 use mathlib.Core.Logic.{⊎-elim}
 use mathlib.Core.List.{List, [], _∷_, _++_, append-nil, append-assoc}
 use Prim.Native.Nat.{ℕ, zero, suc, _+_, _-_, _*_, _/_, _%_, _^_, _<_, _≤_}
-use native.Mathlib.Nat.{le-of-suc-le-suc, eq-or-lt-of-le}
 use native.Mathlib.Numerals.{add-one}
 use native.Mathlib.Omega.{arith}
 use lib.Dec.{ltb, eqb}
-use lib.ListN.{length, take, set, replicate, length-append, length-set, List·getD-append}
-use lib.Seq.{take-all, length-take-le, take-suc-set, append-snoc, getD-at}
+use lib.ListN.{length, take, set, replicate, length-set}
+use lib.Seq.{take-all, length-take-le, take-suc-set, append-snoc}
 use borrow.Author.Tests.{ltb-true, eqb-true, eq-eqb, ne-eqb, lt-ltb}
 use Rattle.algebra.specs.Lists.{AllBelow}
 use Rattle.algebra.proofs.Tests.{by-test}
 use Rattle.algebra.proofs.Orders.{le-or-lt}
-use Rattle.lister_line.specs.declared.Reading.{Reading}
+use Rattle.algebra.proofs.Lists.{below-append}
+use Rattle.lister_line.specs.declared.Progress.{Progress}
 use Rattle.lister_line.specs.declared.Line.{Line}
 use Rattle.text.specs.Decimal.{digit, spell, decimal}
-use Rattle.lister_line.specs.Steps.{separator, nothing, takesDigit, takesEnd, withDigit, withEnd, refused, step, run}
+use Rattle.lister_line.specs.Contracts.{separator, nothing, takesDigit, takesEnd, withDigit, withEnd, refused, step, run}
 use Rattle.lister_line.specs.Line.{written, IsLine, lineOf, Lines}
 use Rattle.text.proofs.Decimals.{spell-last, spell-more, tenth, decimal-one, decimal-more}
 use Rattle.lister_line.proofs.Steps.{left-true, right-true, DigitTaken, EndTaken, digit-taken, takes-digit, end-taken, takes-end, step-digit, step-end, step-refused, run-append, line-is}
@@ -51,110 +51,110 @@ written-terms k (n ∷ m ∷ ns) h =
     ap (λ (xs : List ℕ). decimal n ++ (32 ∷ xs)) (written-terms (suc k) (m ∷ ns) (omega arith))
     ∙ ap (λ (b : ℕ). decimal n ++ (b ∷ terms (suc k) (m ∷ ns))) (sym (separator-space k (λ e. omega arith)))
 
--- A reading with no fault.
-reading : Bool → ℕ → ℕ → List ℕ → Reading
-reading begun value count numbers = record { ok = true; begun = begun; value = value; count = count; numbers = numbers }
+-- Progress with no fault.
+faultless : Bool → ℕ → ℕ → List ℕ → Progress
+faultless begun value count numbers = record { ok = true; begun = begun; value = value; count = count; numbers = numbers }
 
 digit-step : (begun : Bool) (value count : ℕ) (numbers : List ℕ) (d : ℕ) → count < 10 → d < 10 → value < 10000
-    → (not begun || ltb 0 value) ≡ true → step (reading begun value count numbers) (digit d) ≡ reading true (value * 10 + d) count numbers
-unfolding reading digit withDigit
+    → (not begun || ltb 0 value) ≡ true → step (faultless begun value count numbers) (digit d) ≡ faultless true (value * 10 + d) count numbers
+unfolding faultless digit withDigit
 digit-step begun value count numbers d room one small leads =
     let back : 48 + d - 48 ≡ d = omega arith in
-    step-digit (reading begun value count numbers) (digit d)
-    (takes-digit (reading begun value count numbers) (digit d)
+    step-digit (faultless begun value count numbers) (digit d)
+    (takes-digit (faultless begun value count numbers) (digit d)
     (record { ok = refl; room = room; low = omega arith; high = omega arith; small = small; leads = leads }))
-    ∙ ap (λ (k : ℕ). reading true (value * 10 + k) count numbers) back
+    ∙ ap (λ (k : ℕ). faultless true (value * 10 + k) count numbers) back
 
 end-step : (value count : ℕ) (numbers : List ℕ) → count < 10
-    → step (reading true value count numbers) (separator count) ≡ reading false 0 (suc count) (set numbers count value)
-unfolding reading withEnd
+    → step (faultless true value count numbers) (separator count) ≡ faultless false 0 (suc count) (set numbers count value)
+unfolding faultless withEnd
 end-step value count numbers room =
-    step-end (reading true value count numbers) (separator count)
-    (⊎-elim (λ e. absurd (no-digit (digit-taken (reading true value count numbers) (separator count) e))) (λ e. e) (by-test (takesDigit (reading true value count numbers) (separator count))))
-    (takes-end (reading true value count numbers) (separator count) (record { ok = refl; room = room; begun = refl; is = refl }))
-    ∙ ap (λ (k : ℕ). reading false 0 k (set numbers count value)) (add-one count)
+    step-end (faultless true value count numbers) (separator count)
+    (⊎-elim (λ e. absurd (no-digit (digit-taken (faultless true value count numbers) (separator count) e))) (λ e. e) (by-test (takesDigit (faultless true value count numbers) (separator count))))
+    (takes-end (faultless true value count numbers) (separator count) (record { ok = refl; room = room; begun = refl; is = refl }))
+    ∙ ap (λ (k : ℕ). faultless false 0 k (set numbers count value)) (add-one count)
   where
-    no-digit : DigitTaken (reading true value count numbers) (separator count) → ⊥
+    no-digit : DigitTaken (faultless true value count numbers) (separator count) → ⊥
     no-digit d = omega (arith, d .low, separator-low count)
 
 module _ (count : ℕ) (numbers : List ℕ) (room : count < 10) where
-  run-one : (n : ℕ) → n < 10 → run (reading false 0 count numbers) (digit n ∷ []) ≡ reading true n count numbers
+  run-one : (n : ℕ) → n < 10 → run (faultless false 0 count numbers) (digit n ∷ []) ≡ faultless true n count numbers
   unfolding run
   run-one n h =
       let e : 0 * 10 + n ≡ n = omega arith in
-      digit-step false 0 count numbers n room h (omega arith) refl ∙ ap (λ (k : ℕ). reading true k count numbers) e
+      digit-step false 0 count numbers n room h (omega arith) refl ∙ ap (λ (k : ℕ). faultless true k count numbers) e
 
   -- the last digit, after a number that is not 0
-  run-last : (n : ℕ) (front : List ℕ) → 10 ≤ n → n < 100000 → run (reading false 0 count numbers) front ≡ reading true (n / 10) count numbers
-      → run (reading false 0 count numbers) (front ++ (digit (n % 10) ∷ [])) ≡ reading true n count numbers
+  run-last : (n : ℕ) (front : List ℕ) → 10 ≤ n → n < 100000 → run (faultless false 0 count numbers) front ≡ faultless true (n / 10) count numbers
+      → run (faultless false 0 count numbers) (front ++ (digit (n % 10) ∷ [])) ≡ faultless true n count numbers
   unfolding run
   run-last n front b small e =
       let whole : n / 10 * 10 + n % 10 ≡ n = omega arith in
-      run-append (reading false 0 count numbers) front (digit (n % 10) ∷ [])
-      ∙ ap (λ (r : Reading). step r (digit (n % 10))) e
+      run-append (faultless false 0 count numbers) front (digit (n % 10) ∷ [])
+      ∙ ap (λ (p : Progress). step p (digit (n % 10))) e
       ∙ digit-step true (n / 10) count numbers (n % 10) room (omega arith) (omega arith) (lt-ltb 0 (n / 10) (omega arith))
-      ∙ ap (λ (k : ℕ). reading true k count numbers) whole
+      ∙ ap (λ (k : ℕ). faultless true k count numbers) whole
 
-  run-spell : (k n : ℕ) → n < 100000 → n < 10 ^ suc k → run (reading false 0 count numbers) (spell (suc k) n) ≡ reading true n count numbers
+  run-spell : (k n : ℕ) → n < 100000 → n < 10 ^ suc k → run (faultless false 0 count numbers) (spell (suc k) n) ≡ faultless true n count numbers
   run-spell zero n small h =
       let one : n < 10 = omega arith in
-      ap (run (reading false 0 count numbers)) (spell-last zero n one) ∙ run-one n one
+      ap (run (faultless false 0 count numbers)) (spell-last zero n one) ∙ run-one n one
   run-spell (suc k) n small h =
       let ih = run-spell k (n / 10) (omega arith) (tenth (suc k) n h) in
-      ⊎-elim (λ b. ap (run (reading false 0 count numbers)) (spell-more (suc k) n b) ∙ run-last n (spell (suc k) (n / 10)) b small ih)
-      (λ b. ap (run (reading false 0 count numbers)) (spell-last (suc k) n b) ∙ run-one n b)
+      ⊎-elim (λ b. ap (run (faultless false 0 count numbers)) (spell-more (suc k) n b) ∙ run-last n (spell (suc k) (n / 10)) b small ih)
+      (λ b. ap (run (faultless false 0 count numbers)) (spell-last (suc k) n b) ∙ run-one n b)
       (le-or-lt 10 n)
 
-  run-decimal : (n : ℕ) → n < 100000 → run (reading false 0 count numbers) (decimal n) ≡ reading true n count numbers
+  run-decimal : (n : ℕ) → n < 100000 → run (faultless false 0 count numbers) (decimal n) ≡ faultless true n count numbers
   unfolding decimal
   run-decimal n h = run-spell 9 n h (omega arith)
 
 -- A number, the byte after it, and what follows.
 run-term : (count : ℕ) (numbers : List ℕ) (n : ℕ) (rest : List ℕ) → count < 10 → n < 100000
-    → run (reading false 0 count numbers) (decimal n ++ (separator count ∷ rest)) ≡ run (reading false 0 (suc count) (set numbers count n)) rest
+    → run (faultless false 0 count numbers) (decimal n ++ (separator count ∷ rest)) ≡ run (faultless false 0 (suc count) (set numbers count n)) rest
 unfolding run
 run-term count numbers n rest room small =
-    run-append (reading false 0 count numbers) (decimal n) (separator count ∷ rest)
-    ∙ ap (λ (r : Reading). run (step r (separator count)) rest) (run-decimal count numbers room n small)
-    ∙ ap (λ (r : Reading). run r rest) (end-step n count numbers room)
+    run-append (faultless false 0 count numbers) (decimal n) (separator count ∷ rest)
+    ∙ ap (λ (p : Progress). run (step p (separator count)) rest) (run-decimal count numbers room n small)
+    ∙ ap (λ (p : Progress). run p rest) (end-step n count numbers room)
 
 run-terms : (ns : List ℕ) (k : ℕ) (numbers : List ℕ) → k + length ns ≡ 10 → length numbers ≡ 10 → AllBelow 100000 ns
-    → run (reading false 0 k numbers) (terms k ns) ≡ reading false 0 10 (take k numbers ++ ns)
+    → run (faultless false 0 k numbers) (terms k ns) ≡ faultless false 0 10 (take k numbers ++ ns)
 unfolding run terms
 run-terms [] k numbers h whole below =
     let e : k ≡ 10 = omega arith in
-    ap (λ (j : ℕ). reading false 0 j numbers) e
-    ∙ ap (λ (xs : List ℕ). reading false 0 10 xs) (sym (append-nil (take k numbers) ∙ take-all k numbers (omega arith)))
+    ap (λ (j : ℕ). faultless false 0 j numbers) e
+    ∙ ap (λ (xs : List ℕ). faultless false 0 10 xs) (sym (append-nil (take k numbers) ∙ take-all k numbers (omega arith)))
 run-terms (n ∷ ns) k numbers h whole below =
     run-term k numbers n (terms (suc k) ns) (omega arith) (below 0 (omega arith))
     ∙ run-terms ns (suc k) (set numbers k n) (omega arith) (length-set numbers k n ∙ whole) (λ i l. below (suc i) (omega arith))
-    ∙ ap (λ (xs : List ℕ). reading false 0 10 (xs ++ ns)) (take-suc-set numbers k n (omega arith))
-    ∙ ap (λ (xs : List ℕ). reading false 0 10 xs) (append-snoc (take k numbers) n ns)
+    ∙ ap (λ (xs : List ℕ). faultless false 0 10 (xs ++ ns)) (take-suc-set numbers k n (omega arith))
+    ∙ ap (λ (xs : List ℕ). faultless false 0 10 xs) (append-snoc (take k numbers) n ns)
 
 pub line-back : {input ns : List ℕ} → IsLine input ns → lineOf input ≡ record { ok = true; numbers = ns }
-unfolding reading nothing
+unfolding faultless nothing
 line-back {input} {ns} l =
     let here : 0 + length ns ≡ 10 = omega (arith, l .ten) in
-    let read : run nothing input ≡ reading false 0 10 ns =
+    let read : run nothing input ≡ faultless false 0 10 ns =
     ap (run nothing) (l .is ∙ written-terms 0 ns here) ∙ run-terms ns 0 (replicate 10 0) here refl (l .short) in
-    sym (line-is input (reading false 0 10 ns) true (sym read) refl)
+    sym (line-is input (faultless false 0 10 ns) true (sym read) refl)
 
 -- What the bytes so far are, where they have no fault.
 present : Bool → ℕ → List ℕ
 present true value = decimal value
 present false value = []
 
-record Holds (done : List ℕ) (r : Reading) : Type 0 where
-  whole : length (r .numbers) ≡ 10
-  few : r .count ≤ 10
-  live : r .begun ≡ true → r .count < 10
-  idle : r .begun ≡ false → r .value ≡ 0
-  small : r .value < 100000
-  below : AllBelow 100000 (take (r .count) (r .numbers))
-  is : done ≡ terms 0 (take (r .count) (r .numbers)) ++ present (r .begun) (r .value)
+record Holds (done : List ℕ) (p : Progress) : Type 0 where
+  whole : length (p .numbers) ≡ 10
+  few : p .count ≤ 10
+  live : p .begun ≡ true → p .count < 10
+  idle : p .begun ≡ false → p .value ≡ 0
+  small : p .value < 100000
+  below : AllBelow 100000 (take (p .count) (p .numbers))
+  is : done ≡ terms 0 (take (p .count) (p .numbers)) ++ present (p .begun) (p .value)
 
-abbrev Fit : List ℕ → Reading → Type 0
-Fit done r = r .ok ≡ true → Holds done r
+abbrev Fit : List ℕ → Progress → Type 0
+Fit done p = p .ok ≡ true → Holds done p
 
 holds-start : Holds [] nothing
 unfolding nothing terms present
@@ -181,9 +181,9 @@ present-more false value b idle leads small low high =
     let back : 48 + (b - 48) ≡ b = omega arith in
     sym (ap decimal only ∙ decimal-one (b - 48) (omega arith) ∙ ap (λ (k : ℕ). k ∷ []) back)
 
-holds-digit : (done : List ℕ) (r : Reading) (b : ℕ) → Holds done r → DigitTaken r b → Holds (done ++ (b ∷ [])) (withDigit r b)
+holds-digit : (done : List ℕ) (p : Progress) (b : ℕ) → Holds done p → DigitTaken p b → Holds (done ++ (b ∷ [])) (withDigit p b)
 unfolding withDigit present
-holds-digit done r b h d = record {
+holds-digit done p b h d = record {
   whole = h .whole;
   few = h .few;
   live = λ e. d .room;
@@ -192,9 +192,9 @@ holds-digit done r b h d = record {
   below = h .below;
   is =
       ap (λ (xs : List ℕ). xs ++ (b ∷ [])) (h .is)
-      ∙ append-assoc (terms 0 (take (r .count) (r .numbers))) (present (r .begun) (r .value)) (b ∷ [])
-      ∙ ap (λ (xs : List ℕ). terms 0 (take (r .count) (r .numbers)) ++ xs)
-      (present-more (r .begun) (r .value) b (h .idle) (d .leads) (d .small) (d .low) (d .high));
+      ∙ append-assoc (terms 0 (take (p .count) (p .numbers))) (present (p .begun) (p .value)) (b ∷ [])
+      ∙ ap (λ (xs : List ℕ). terms 0 (take (p .count) (p .numbers)) ++ xs)
+      (present-more (p .begun) (p .value) b (h .idle) (d .leads) (d .small) (d .low) (d .high));
 }
 
 terms-snoc : (k : ℕ) (xs : List ℕ) (x : ℕ) → terms k (xs ++ (x ∷ [])) ≡ terms k xs ++ (decimal x ++ (separator (k + length xs) ∷ []))
@@ -206,95 +206,92 @@ terms-snoc k (y ∷ xs) x =
     (terms-snoc (suc k) xs x ∙ ap (λ (j : ℕ). terms (suc k) xs ++ (decimal x ++ (separator j ∷ []))) e)
     ∙ sym (append-assoc (decimal y) (separator k ∷ terms (suc k) xs) (decimal x ++ (separator (k + suc (length xs)) ∷ [])))
 
-below-snoc : (q : ℕ) (xs : List ℕ) (x : ℕ) → AllBelow q xs → x < q → AllBelow q (xs ++ (x ∷ []))
-below-snoc q xs x all h i l =
-    ⊎-elim (λ e. subst (λ (k : ℕ). k < q) (sym (getD-at xs x [] 0 i (sym e))) h)
-    (λ b. subst (λ (k : ℕ). k < q) (sym (List·getD-append xs (x ∷ []) 0 i b)) (all i b))
-    (eq-or-lt-of-le (le-of-suc-le-suc (subst (λ (k : ℕ). i < k) (length-snoc xs) l)))
-  where
-    length-snoc : (ys : List ℕ) → length (ys ++ (x ∷ [])) ≡ suc (length ys)
-    length-snoc ys = omega (arith, length-append ys (x ∷ []))
-
 -- a number's end
-module _ (r : Reading) (room : r .count < 10) (whole : length (r .numbers) ≡ 10) where
-  taken : take (r .count + 1) (set (r .numbers) (r .count) (r .value)) ≡ take (r .count) (r .numbers) ++ (r .value ∷ [])
+module _ (p : Progress) (room : p .count < 10) (whole : length (p .numbers) ≡ 10) where
+  taken : take (p .count + 1) (set (p .numbers) (p .count) (p .value)) ≡ take (p .count) (p .numbers) ++ (p .value ∷ [])
   taken =
-      ap (λ (k : ℕ). take k (set (r .numbers) (r .count) (r .value))) (add-one (r .count))
-      ∙ take-suc-set (r .numbers) (r .count) (r .value) (omega arith)
+      ap (λ (k : ℕ). take k (set (p .numbers) (p .count) (p .value))) (add-one (p .count))
+      ∙ take-suc-set (p .numbers) (p .count) (p .value) (omega arith)
 
-  ended : terms 0 (take (r .count) (r .numbers)) ++ (decimal (r .value) ++ (separator (r .count) ∷ []))
-      ≡ terms 0 (take (r .count + 1) (set (r .numbers) (r .count) (r .value)))
+  ended : terms 0 (take (p .count) (p .numbers)) ++ (decimal (p .value) ++ (separator (p .count) ∷ []))
+      ≡ terms 0 (take (p .count + 1) (set (p .numbers) (p .count) (p .value)))
   ended =
-      let e : r .count ≡ 0 + length (take (r .count) (r .numbers)) = omega (arith, length-take-le (r .count) (r .numbers) (omega arith)) in
-      ap (λ (k : ℕ). terms 0 (take (r .count) (r .numbers)) ++ (decimal (r .value) ++ (separator k ∷ []))) e
-      ∙ sym (ap (terms 0) taken ∙ terms-snoc 0 (take (r .count) (r .numbers)) (r .value))
+      let e : p .count ≡ 0 + length (take (p .count) (p .numbers)) = omega (arith, length-take-le (p .count) (p .numbers) (omega arith)) in
+      ap (λ (k : ℕ). terms 0 (take (p .count) (p .numbers)) ++ (decimal (p .value) ++ (separator k ∷ []))) e
+      ∙ sym (ap (terms 0) taken ∙ terms-snoc 0 (take (p .count) (p .numbers)) (p .value))
 
-holds-end : (done : List ℕ) (r : Reading) (b : ℕ) → Holds done r → EndTaken r b → Holds (done ++ (b ∷ [])) (withEnd r)
+holds-end : (done : List ℕ) (p : Progress) (b : ℕ) → Holds done p → EndTaken p b → Holds (done ++ (b ∷ [])) (withEnd p)
 unfolding withEnd present
-holds-end done r b h d = record {
-  whole = length-set (r .numbers) (r .count) (r .value) ∙ h .whole;
+holds-end done p b h d = record {
+  whole = length-set (p .numbers) (p .count) (p .value) ∙ h .whole;
   few = omega (arith, d .room);
   live = λ e. absurd (true≢false (sym e));
   idle = λ e. refl;
   small = omega arith;
-  below = subst (AllBelow 100000) (sym (taken r (d .room) (h .whole))) (below-snoc 100000 (take (r .count) (r .numbers)) (r .value) (h .below) (h .small));
+  below =
+      subst (AllBelow 100000) (sym (taken p (d .room) (h .whole)))
+      (below-append 100000 (take (p .count) (p .numbers)) (p .value ∷ []) (h .below) one);
   is =
       ap (λ (xs : List ℕ). xs ++ (b ∷ [])) (h .is)
-      ∙ ap (λ (t : Bool). terms 0 (take (r .count) (r .numbers)) ++ present t (r .value) ++ (b ∷ [])) (d .begun)
-      ∙ ap (λ (k : ℕ). terms 0 (take (r .count) (r .numbers)) ++ decimal (r .value) ++ (k ∷ [])) (d .is)
-      ∙ append-assoc (terms 0 (take (r .count) (r .numbers))) (decimal (r .value)) (separator (r .count) ∷ [])
-      ∙ ended r (d .room) (h .whole)
-      ∙ sym (append-nil (terms 0 (take (r .count + 1) (set (r .numbers) (r .count) (r .value)))));
+      ∙ ap (λ (t : Bool). terms 0 (take (p .count) (p .numbers)) ++ present t (p .value) ++ (b ∷ [])) (d .begun)
+      ∙ ap (λ (k : ℕ). terms 0 (take (p .count) (p .numbers)) ++ decimal (p .value) ++ (k ∷ [])) (d .is)
+      ∙ append-assoc (terms 0 (take (p .count) (p .numbers))) (decimal (p .value)) (separator (p .count) ∷ [])
+      ∙ ended p (d .room) (h .whole)
+      ∙ sym (append-nil (terms 0 (take (p .count + 1) (set (p .numbers) (p .count) (p .value)))));
 }
+  where
+    one : AllBelow 100000 (p .value ∷ [])
+    one zero l = h .small
+    one (suc i) l = let no : ⊥ = omega arith in absurd no
 
-fit-step : (done : List ℕ) (r : Reading) (b : ℕ) → Fit done r → Fit (done ++ (b ∷ [])) (step r b)
+fit-step : (done : List ℕ) (p : Progress) (b : ℕ) → Fit done p → Fit (done ++ (b ∷ [])) (step p b)
 unfolding refused
-fit-step done r b h =
+fit-step done p b h =
     ⊎-elim
-    (λ t. let d = digit-taken r b t in
-    subst (Fit (done ++ (b ∷ []))) (sym (step-digit r b t)) (λ e. holds-digit done r b (h (d .ok)) d))
+    (λ t. let d = digit-taken p b t in
+    subst (Fit (done ++ (b ∷ []))) (sym (step-digit p b t)) (λ e. holds-digit done p b (h (d .ok)) d))
     (λ f. ⊎-elim
-    (λ t. let d = end-taken r b t in
-    subst (Fit (done ++ (b ∷ []))) (sym (step-end r b f t)) (λ e. holds-end done r b (h (d .ok)) d))
-    (λ g. subst (Fit (done ++ (b ∷ []))) (sym (step-refused r b f g)) (λ e. absurd (true≢false (sym e))))
-    (by-test (takesEnd r b)))
-    (by-test (takesDigit r b))
+    (λ t. let d = end-taken p b t in
+    subst (Fit (done ++ (b ∷ []))) (sym (step-end p b f t)) (λ e. holds-end done p b (h (d .ok)) d))
+    (λ g. subst (Fit (done ++ (b ∷ []))) (sym (step-refused p b f g)) (λ e. absurd (true≢false (sym e))))
+    (by-test (takesEnd p b)))
+    (by-test (takesDigit p b))
 
-fit-run : (todo done : List ℕ) (r : Reading) → Fit done r → Fit (done ++ todo) (run r todo)
+fit-run : (todo done : List ℕ) (p : Progress) → Fit done p → Fit (done ++ todo) (run p todo)
 unfolding run
-fit-run [] done r h = subst (λ (xs : List ℕ). Fit xs r) (sym (append-nil done)) h
-fit-run (b ∷ todo) done r h =
-    subst (λ (xs : List ℕ). Fit xs (run (step r b) todo)) (append-snoc done b todo)
-    (fit-run todo (done ++ (b ∷ [])) (step r b) (fit-step done r b h))
+fit-run [] done p h = subst (λ (xs : List ℕ). Fit xs p) (sym (append-nil done)) h
+fit-run (b ∷ todo) done p h =
+    subst (λ (xs : List ℕ). Fit xs (run (step p b) todo)) (append-snoc done b todo)
+    (fit-run todo (done ++ (b ∷ [])) (step p b) (fit-step done p b h))
 
 -- the end of a line
-holds-line : (input : List ℕ) (r : Reading) → Holds input r → r .count ≡ 10 → IsLine input (r .numbers)
+holds-line : (input : List ℕ) (p : Progress) → Holds input p → p .count ≡ 10 → IsLine input (p .numbers)
 unfolding present
-holds-line input r h e =
-    let all : take (r .count) (r .numbers) ≡ r .numbers = take-all (r .count) (r .numbers) (omega (arith, h .whole)) in
-    let here : 0 + length (r .numbers) ≡ 10 = omega (arith, h .whole) in
-    let stopped : r .begun ≡ false = ⊎-elim (λ t. absurd (late (h .live t))) (λ f. f) (by-test (r .begun)) in
+holds-line input p h e =
+    let all : take (p .count) (p .numbers) ≡ p .numbers = take-all (p .count) (p .numbers) (omega (arith, h .whole)) in
+    let here : 0 + length (p .numbers) ≡ 10 = omega (arith, h .whole) in
+    let stopped : p .begun ≡ false = ⊎-elim (λ t. absurd (late (h .live t))) (λ f. f) (by-test (p .begun)) in
     record {
       ten = h .whole;
       short = subst (AllBelow 100000) all (h .below);
       is =
           h .is
-          ∙ ap (λ (t : Bool). terms 0 (take (r .count) (r .numbers)) ++ present t (r .value)) stopped
-          ∙ append-nil (terms 0 (take (r .count) (r .numbers)))
+          ∙ ap (λ (t : Bool). terms 0 (take (p .count) (p .numbers)) ++ present t (p .value)) stopped
+          ∙ append-nil (terms 0 (take (p .count) (p .numbers)))
           ∙ ap (terms 0) all
-          ∙ sym (written-terms 0 (r .numbers) here);
+          ∙ sym (written-terms 0 (p .numbers) here);
     }
   where
-    late : r .count < 10 → ⊥
+    late : p .count < 10 → ⊥
     late l = omega arith
 
 pub line-only : (input : List ℕ) → lineOf input .ok ≡ true → IsLine input (lineOf input .numbers)
 unfolding lineOf
 line-only input e =
-    let r = run nothing input in
-    holds-line input r
-    (fit-run input [] nothing (λ t. holds-start) (left-true (r .ok) (eqb (r .count) 10) e))
-    (eqb-true (r .count) 10 (right-true (r .ok) (eqb (r .count) 10) e))
+    let p = run nothing input in
+    holds-line input p
+    (fit-run input [] nothing (λ t. holds-start) (left-true (p .ok) (eqb (p .count) 10) e))
+    (eqb-true (p .count) 10 (right-true (p .ok) (eqb (p .count) 10) e))
 
 pub lines : Lines
 lines = record {

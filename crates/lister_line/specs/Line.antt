@@ -15,7 +15,7 @@ use lib.ListN.{length}
 use Rattle.algebra.specs.Lists.{AllBelow}
 use Rattle.text.specs.Decimal.{decimal}
 use Rattle.lister_line.specs.declared.Line.{Line}
-use Rattle.lister_line.specs.Steps.{nothing, run}
+use Rattle.lister_line.specs.Contracts.{nothing, run}
 
 unfoldable pub written : List ℕ → List ℕ
 written [] = []
@@ -29,7 +29,7 @@ pub record IsLine (input ns : List ℕ) : Type 0 where
   pub is : input ≡ written ns
 
 unfoldable pub lineOf : List ℕ → Line
-lineOf input = let r = run nothing input in record { ok = r .ok && eqb (r .count) 10; numbers = r .numbers }
+lineOf input = let p = run nothing input in record { ok = p .ok && eqb (p .count) 10; numbers = p .numbers }
 
 pub record Lines : Type 0 where
   pub accepted : (input ns : List ℕ) → (lineOf input ≡ record { ok = true; numbers = ns }) ↔ IsLine input ns

@@ -1,17 +1,19 @@
 // A line of ten numbers, read byte by byte.
 ghost use mathlib.Core.Path.{_≡_};
-ghost use Rattle.lister_line.specs.Steps.{separator, goesOn, isDigit, grows, takesDigit, takesEnd, step};
+ghost use Rattle.lister_line.specs.Contracts.{separator, goesOn, isDigit, grows, takesDigit, takesEnd, step};
 ghost use Rattle.lister_line.specs.Line.{lineOf};
 
+// What stands after a number, and after the last one.
 const SPACE: u8 = 32;
 
 const LINE_FEED: u8 = 10;
 
+// The first and the last digit.
 const ZERO: u8 = 48;
 
 const NINE: u8 = 57;
 
-// How many numbers a line has, and the last one's place.
+// How many numbers a line has, and the last one's index.
 const NUMBERS: usize = 10;
 
 const LAST_NUMBER: usize = NUMBERS - 1;
@@ -26,9 +28,9 @@ pub struct Line {
     pub numbers: [u32; NUMBERS],
 }
 
-// A line as far as it is read: whether it has no fault so far; the present number, where it is begun; how many numbers
-// have ended, and these.
-struct Reading {
+// How far a line is read: whether it has no fault so far; the present number, where it is begun; how many numbers have
+// ended, and these.
+struct Progress {
     ok: bool,
     begun: bool,
     value: u32,
@@ -44,10 +46,10 @@ fn separator_after(k: usize) -> u8
 }
 
 // The line has no fault so far, and is not at its end.
-fn goes_on(r: Reading) -> bool
-    ensures { λ b. ⌜ b ≡ goesOn r ⌝ }
+fn goes_on(p: Progress) -> bool
+    ensures { λ b. ⌜ b ≡ goesOn p ⌝ }
 {
-    r.ok && r.count < NUMBERS
+    p.ok && p.count < NUMBERS
 }
 
 // The byte is that of a digit.
@@ -58,43 +60,43 @@ fn is_digit(byte: u8) -> bool
 }
 
 // The present number may have a further digit: it has at most four, and is not a 0.
-fn may_grow(r: Reading) -> bool
-    ensures { λ b. ⌜ b ≡ grows r ⌝ }
+fn may_grow(p: Progress) -> bool
+    ensures { λ b. ⌜ b ≡ grows p ⌝ }
 {
-    r.value < FIVE_DIGITS && (!r.begun || 0 < r.value)
+    p.value < FIVE_DIGITS && (!p.begun || 0 < p.value)
 }
 
 // The byte is a further digit of the present number.
-fn takes_digit(r: Reading, byte: u8) -> bool
-    ensures { λ b. ⌜ b ≡ takesDigit r byte ⌝ }
+fn takes_digit(p: Progress, byte: u8) -> bool
+    ensures { λ b. ⌜ b ≡ takesDigit p byte ⌝ }
 {
-    if !goes_on(r) {
+    if !goes_on(p) {
         return false;
     }
-    is_digit(byte) && may_grow(r)
+    is_digit(byte) && may_grow(p)
 }
 
 // The byte ends the present number.
-fn takes_end(r: Reading, byte: u8) -> bool
-    ensures { λ b. ⌜ b ≡ takesEnd r byte ⌝ }
+fn takes_end(p: Progress, byte: u8) -> bool
+    ensures { λ b. ⌜ b ≡ takesEnd p byte ⌝ }
 {
-    if !goes_on(r) {
+    if !goes_on(p) {
         return false;
     }
-    r.begun && byte == separator_after(r.count)
+    p.begun && byte == separator_after(p.count)
 }
 
-// The reading after one byte more.
-fn read_byte(r: Reading, byte: u8) -> Reading
-    ensures { λ s. ⌜ s ≡ step r byte ⌝ }
+// The progress after one byte more.
+fn read_byte(p: Progress, byte: u8) -> Progress
+    ensures { λ s. ⌜ s ≡ step p byte ⌝ }
 {
-    let mut next = r;
-    if takes_digit(r, byte) {
-        next.value = r.value * 10 + (byte - ZERO) as u32;
+    let mut next = p;
+    if takes_digit(p, byte) {
+        next.value = p.value * 10 + (byte - ZERO) as u32;
         next.begun = true;
-    } else if takes_end(r, byte) {
-        let count = r.count;
-        next.numbers[count] = r.value;
+    } else if takes_end(p, byte) {
+        let count = p.count;
+        next.numbers[count] = p.value;
         next.count = count + 1;
         next.begun = false;
         next.value = 0;
@@ -109,7 +111,7 @@ pub fn read_line(input: &[u8]) -> Line
     ensures { λ r. ⌜ r ≡ lineOf (now (input .entry)) ⌝ }
 {
     let none = [0u32; NUMBERS];
-    let mut r = Reading {
+    let mut p = Progress {
         ok: true,
         begun: false,
         value: 0,
@@ -118,12 +120,12 @@ pub fn read_line(input: &[u8]) -> Line
     };
     let mut i = 0;
     while i < input.len() {
-        r = read_byte(r, input[i]);
+        p = read_byte(p, input[i]);
         i += 1;
     }
-    let numbers = r.numbers;
+    let numbers = p.numbers;
     Line {
-        ok: r.ok && r.count == NUMBERS,
+        ok: p.ok && p.count == NUMBERS,
         numbers,
     }
 }

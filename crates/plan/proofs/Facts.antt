@@ -2,7 +2,7 @@
 --
 --   Facts job points    the numbers are in range, divide, fit and suffice; the points are N distinct elements that are not 0
 --   facts               they hold where no plan number fits
---   planned-facts       planning answers without a refusal: no plan number fits
+--   planned-facts       planning does not refuse: no plan number fits
 --   points-unseen       with over 64 hosts the points play no part
 use mathlib.Core.Path.{_≡_, refl, sym, ap, _∙_}
 use mathlib.Core.Bool.{false, not, _||_, true≢false}
@@ -25,7 +25,7 @@ use Rattle.field.proofs.Moduli.{Known, known-number}
 use Rattle.plan.specs.declared.Job.{Job}
 use Rattle.plan.specs.declared.Plan.{Plan}
 use Rattle.plan.specs.declared.Planned.the-variants.{Accepted, Refused}
-use Rattle.plan.specs.Planning.{prime, blockRows, blockInner, blockColumns, neededOf, planOf, divisionTest, blockTest, hostsTest, neededTest, rangeTests, fitTests, member, pointTestsAt, allPointTests, pointTests, planTests, planned}
+use Rattle.plan.specs.Planning.{prime, blockRows, blockInner, blockColumns, neededOf, planOf, rangeTests, fitTests, member, pointTestsAt, allPointTests, pointTests, planTests, planned}
 use Rattle.plan.proofs.Ranges.{Ranged, ranged}
 use Rattle.plan.proofs.Points.{member-at, points-numbered}
 
@@ -52,12 +52,12 @@ pub record Facts (job : Job) (points : List ℕ) : Type 0 where
 
 module _ (job : Job) (modulus : noModulus (job .modulus) ≡ false) (range : first (rangeTests job) ≡ 0) (fit : first (fitTests job) ≡ 0) where
   fits-of : Fits job
-  unfolding fitTests divisionTest blockTest hostsTest neededTest prime
+  unfolding fitTests prime
   fits-of =
-      let division = first-clear (divisionTest job) 4 _ fit in
-      let block = first-clear (blockTest job) 5 _ (division .1) in
-      let hosts = first-clear (hostsTest job) 6 _ (block .1) in
-      let needed = first-clear (neededTest job) 7 _ (hosts .1) in
+      let division = first-clear _ 4 _ fit in
+      let block = first-clear _ 5 _ (division .1) in
+      let hosts = first-clear _ 6 _ (block .1) in
+      let needed = first-clear _ 7 _ (hosts .1) in
       let whole = or-all (not (eqb (job .t % job .m) 0)) (not (eqb (job .s % job .p) 0)) (not (eqb (job .r % job .n) 0)) (division .0) in
       let small = blocks-fit (blockRows job) (blockInner job) (blockColumns job) (block .0) in
       let h1 = outside 1 64 (job .hosts) in

@@ -8,7 +8,7 @@ use Rattle.refusal.specs.Limits.{sizesOutside}
 use Rattle.refusal.proofs.Chains.{first-clear}
 use Rattle.refusal.proofs.Limits.{Within, within-both, within-all}
 use Rattle.plan.specs.declared.Job.{Job}
-use Rattle.plan.specs.Planning.{sizeTest, cutTest, groupTest, rangeTests}
+use Rattle.plan.specs.Planning.{rangeTests}
 
 pub record Ranged (job : Job) : Type 0 where
   pub t : Within 16384 (job .t)
@@ -21,11 +21,11 @@ pub record Ranged (job : Job) : Type 0 where
   pub xb : Within 16 (job .xb)
 
 pub ranged : (job : Job) → first (rangeTests job) ≡ 0 → Ranged job
-unfolding rangeTests sizeTest cutTest groupTest sizesOutside
+unfolding rangeTests sizesOutside
 ranged job e =
-    let sizes = first-clear (sizeTest job) 1 _ e in
-    let cuts = first-clear (cutTest job) 2 _ (sizes .1) in
-    let groups = first-clear (groupTest job) 3 _ (cuts .1) in
+    let sizes = first-clear _ 1 _ e in
+    let cuts = first-clear _ 2 _ (sizes .1) in
+    let groups = first-clear _ 3 _ (cuts .1) in
     let side = within-all 16384 (job .t) (job .s) (job .r) (sizes .0) in
     let cut = within-all 8 (job .m) (job .p) (job .n) (cuts .0) in
     let group = within-both 16 (job .xa) (job .xb) (groups .0) in

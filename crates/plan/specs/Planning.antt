@@ -6,21 +6,21 @@
 --   blockRows, blockInner, blockColumns == the sizes of blocks: an A block is rows by inner, a B block inner by columns,
 --                           an answer rows by columns
 --   layoutOf, neededOf   == the layout that the job has, and K, its number of answers needed
---   sizeTest, cutTest ..  == the tests 2 to 8, each by itself
 --   rangeTests, fitTests  == the tests 2 to 4, of each number by itself, and 5 to 8, of the numbers together
---   pointTestsAt q xs i     == the tests of point i
+--   pointTestsAt q xs i  == the tests of point i, 10 and 11
+--   allPointTests q xs n == those of the first n points, point by point
 --   pointTests           == the tests of the points, 9 to 11
 --   planTests            == the tests of a plan, 1 to 11
 --   planOf               == the plan of an accepted job
---   planned              == what planning answers
---   told                 == what an answer of planning says on paper: its number, and the values of an accepted job
+--   planned              == what planning returns
+--   told                 == what that says on paper: its number, and the values of an accepted job
 --   planValues           == these values: the number of its layout, K, and rows, inner and columns of its blocks
-use mathlib.Core.Bool.{Bool, false, not, _||_}
+use mathlib.Core.Bool.{Bool, false, _||_}
 use mathlib.Core.List.{List, [], _∷_, _++_}
 use Prim.Native.Nat.{ℕ, zero, suc, _/_, _%_}
 use lib.Dec.{leb, ltb, eqb}
 use lib.ListN.{length, getD, take}
-use Rattle.refusal.specs.Chain.{Test, first, outcome, Told, done, refused, outside}
+use Rattle.refusal.specs.Chain.{Test, first, outcome, Told, done, refused, outside, differs}
 use Rattle.refusal.specs.Limits.{anyOutside, sizesOutside, overBlock}
 use Rattle.field.specs.declared.Modulus.{Modulus}
 use Rattle.field.specs.declared.Modulus.the-variants.{Q13}
@@ -64,39 +64,22 @@ layoutOf job = choice (parameters job)
 unfoldable pub neededOf : Job → ℕ
 neededOf job = exponents (layoutOf job) (parameters job) .needed
 
--- t, s or r is not 1..16384
-unfoldable pub sizeTest : Job → Bool
-sizeTest job = sizesOutside (job .t) (job .s) (job .r)
-
--- m, p or n is not 1..8
-unfoldable pub cutTest : Job → Bool
-cutTest job = anyOutside 8 (job .m) (job .p) (job .n)
-
--- X_A or X_B is not 1..16
-unfoldable pub groupTest : Job → Bool
-groupTest job = outside 1 16 (job .xa) || outside 1 16 (job .xb)
-
--- m does not divide t, or p s, or n r
-unfoldable pub divisionTest : Job → Bool
-divisionTest job = not (eqb (job .t % job .m) 0) || not (eqb (job .s % job .p) 0) || not (eqb (job .r % job .n) 0)
-
--- an A block, a B block or an answer block has over 4096 elements
-unfoldable pub blockTest : Job → Bool
-blockTest job = overBlock (blockRows job) (blockInner job) (blockColumns job)
-
--- N is not 1..64, or over q - 1
-unfoldable pub hostsTest : Job → Bool
-hostsTest job = outside 1 64 (job .hosts) || leb (prime job) (job .hosts)
-
--- K is over N
-unfoldable pub neededTest : Job → Bool
-neededTest job = ltb (job .hosts) (neededOf job)
-
+-- t, s or r is not 1..16384; m, p or n is not 1..8; X_A or X_B is not 1..16
 unfoldable pub rangeTests : Job → List Test
-rangeTests job = (sizeTest job, 2) ∷ (cutTest job, 3) ∷ (groupTest job, 4) ∷ []
+rangeTests job =
+    (sizesOutside (job .t) (job .s) (job .r), 2)
+    ∷ (anyOutside 8 (job .m) (job .p) (job .n), 3)
+    ∷ (outside 1 16 (job .xa) || outside 1 16 (job .xb), 4)
+    ∷ []
 
+-- m does not divide t, or p s, or n r; a block is too large; N is not 1..64, or over q - 1; K is over N
 unfoldable pub fitTests : Job → List Test
-fitTests job = (divisionTest job, 5) ∷ (blockTest job, 6) ∷ (hostsTest job, 7) ∷ (neededTest job, 8) ∷ []
+fitTests job =
+    (differs (job .t % job .m) 0 || differs (job .s % job .p) 0 || differs (job .r % job .n) 0, 5)
+    ∷ (overBlock (blockRows job) (blockInner job) (blockColumns job), 6)
+    ∷ (outside 1 64 (job .hosts) || leb (prime job) (job .hosts), 7)
+    ∷ (ltb (job .hosts) (neededOf job), 8)
+    ∷ []
 
 -- x stands in xs
 unfoldable pub member : ℕ → List ℕ → Bool
@@ -116,7 +99,7 @@ allPointTests q points zero = []
 allPointTests q points (suc n) = allPointTests q points n ++ pointTestsAt q points n
 
 unfoldable pub pointTests : ℕ → ℕ → List ℕ → List Test
-pointTests q hosts points = (not (eqb (length points) hosts), 9) ∷ allPointTests q points (length points)
+pointTests q hosts points = (differs (length points) hosts, 9) ∷ allPointTests q points (length points)
 
 unfoldable pub planTests : Job → List ℕ → List Test
 planTests job points = (noModulus (job .modulus), 1) ∷ (rangeTests job ++ (fitTests job ++ pointTests (prime job) (job .hosts) points))

@@ -7,11 +7,6 @@ ghost use Rattle.plan.specs.Planning.{
   parameters,
   prime,
   neededOf,
-  groupTest,
-  divisionTest,
-  blockTest,
-  hostsTest,
-  neededTest,
   rangeTests,
   fitTests,
   member,
@@ -55,7 +50,7 @@ pub struct Plan {
     pub needed: u32,
 }
 
-// What planning answers.
+// What planning returns.
 pub enum Planned {
     Accepted(Plan),
     Refused(u32),
@@ -65,13 +60,6 @@ pub enum Planned {
 const MOST_CUTS: u32 = 8;
 
 const MOST_GROUP: u32 = 16;
-
-// X_A or X_B is out of range.
-fn group_test(job: Job) -> bool
-    ensures { λ r. ⌜ r ≡ groupTest job ⌝ }
-{
-    outside(1, MOST_GROUP, job.xa) | outside(1, MOST_GROUP, job.xb)
-}
 
 // Tests 2 to 4: each number by itself.
 fn range_refusal(job: Job) -> u32
@@ -83,42 +71,10 @@ fn range_refusal(job: Job) -> u32
     if any_outside(MOST_CUTS, job.m, job.p, job.n) {
         return refusal::CUTS;
     }
-    if group_test(job) {
+    if outside(1, MOST_GROUP, job.xa) | outside(1, MOST_GROUP, job.xb) {
         return refusal::GROUPS;
     }
     0
-}
-
-// A cut does not divide its side.
-fn division_test(job: Job) -> bool
-    requires { ⌜ first (rangeTests job) ≡ 0 ⌝ }
-    ensures { λ r. ⌜ r ≡ divisionTest job ⌝ }
-{
-    (job.t % job.m != 0) | (job.s % job.p != 0) | (job.r % job.n != 0)
-}
-
-// A block is too large.
-fn block_test(job: Job) -> bool
-    requires { ⌜ first (rangeTests job) ≡ 0 ⌝ }
-    ensures { λ r. ⌜ r ≡ blockTest job ⌝ }
-{
-    over_block(job.t / job.m, job.s / job.p, job.r / job.n)
-}
-
-// N is out of range. q is the job's prime.
-fn hosts_test(job: Job, q: u32) -> bool
-    requires { ⌜ q ≡ prime job ⌝ }
-    ensures { λ r. ⌜ r ≡ hostsTest job ⌝ }
-{
-    outside(1, refusal::MOST_HOSTS, job.hosts) | (q <= job.hosts)
-}
-
-// More answers are needed than there are hosts.
-fn needed_test(job: Job, needed: u32) -> bool
-    requires { ⌜ needed ≡ neededOf job ⌝ }
-    ensures { λ r. ⌜ r ≡ neededTest job ⌝ }
-{
-    job.hosts < needed
 }
 
 // Tests 5 to 8: the numbers together. q is the job's prime, and needed its number of answers needed.
@@ -128,16 +84,16 @@ fn fit_refusal(job: Job, q: u32, needed: u32) -> u32
     requires { ⌜ needed ≡ neededOf job ⌝ }
     ensures { λ r. ⌜ r ≡ first (fitTests job) ⌝ }
 {
-    if division_test(job) {
+    if (job.t % job.m != 0) | (job.s % job.p != 0) | (job.r % job.n != 0) {
         return refusal::DIVISION;
     }
-    if block_test(job) {
+    if over_block(job.t / job.m, job.s / job.p, job.r / job.n) {
         return refusal::BLOCK;
     }
-    if hosts_test(job, q) {
+    if outside(1, refusal::MOST_HOSTS, job.hosts) | (q <= job.hosts) {
         return refusal::HOSTS;
     }
-    if needed_test(job, needed) {
+    if job.hosts < needed {
         return refusal::NEEDED;
     }
     0

@@ -20,7 +20,7 @@ use Rattle.plan.specs.Planning.{parameters, prime, modulusOf, blockRows, blockI
 use Rattle.plan.specs.Planning.{sizeTest, cutTest, groupTest, divisionTest, blockTest, hostsTest, neededTest, rangeTests, fitTests}
 use Rattle.plan.specs.Planning.{member, pointTestsAt, allPointTests, pointTests, planTests, planned}
 use Rattle.product.specs.Product.{productEntry, productOf, lengthTest, productTests, productAfter}
-use Rattle.share_side.specs.Weights.{side}
+use Rattle.share_side.specs.Sides.{side}
 use Rattle.share_blocks.specs.Encoding.{blockLength, matrixLength, maskLength, lengthTest as Encoding·lengthTest}
 use Rattle.share.specs.Sharing.{blockEntry, maskEntry, shareEntry, shareOf, point, hostShare, ownTests, shareTests, shareAfter}
 use lib.Count.{ones, onesIn}

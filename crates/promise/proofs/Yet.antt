@@ -33,7 +33,7 @@ use Rattle.message.proofs.RoundTrips.{reads-back}
 use Rattle.arrival_heard.specs.Heard.{isHeard, someAbove}
 use Rattle.arrival_heard.proofs.Bits.{none-heard, ones-size}
 use Rattle.arrival.proofs.Outcomes.{message-numbered}
-use Rattle.arrival.specs.Arriving.{answerLength, storeLength, blockAt, place, foreign}
+use Rattle.arrival.specs.Arriving.{answerLength, storeLength, blockAt, hostIndex, foreign}
 use Rattle.product.specs.Product.{productOf}
 use Rattle.decode.specs.Decoding.{tableOf, tableLength, heardBelow, decodeTests, tableAfter}
 use Rattle.promise.specs.Demand3.{Task, Accepted, Call, arrival, decoding, State, Reply, unanswered, reply, run, replies, matrix, fitFor, hasFit, firstFit, begin, answerHeader, headerFor, trueProduct, Trace}
@@ -75,7 +75,7 @@ module _ (x : Task) (ok : Accepted x) (ma mb : List ℕ) (i : ℕ) (low : i < x 
       ∙ first-none
 
   pub true-fit : (s : State) → length (s .store) ≡ storeLength (x .job) → fitFor x s i (arrival (trueProduct x (suc i) ma mb)) ≡ true
-  unfolding fitFor place message answerHeader headerFor
+  unfolding fitFor hostIndex message answerHeader headerFor
   true-fit s room =
       ap₂ _&&_ (fit-core x ok s room message ∙ eq-eqb (first (core x message)) 0 core-clear)
       (eq-eqb (headerOf message .host - 1) i (ap (λ (h : Header). h .host - 1) header-is ∙ (let e : suc i - 1 ≡ i = omega arith in e)))

@@ -1,5 +1,5 @@
 // Runs the plan lister on many inputs, one after another: each case is a length of two bytes, big-endian, and as many
-// bytes of input. What the lister answers goes to standard output. The cases and the answers are those of the separate
+// bytes of input. What the lister prints goes to standard output. The cases and the outputs are those of the separate
 // Rust program in docs/src.
 ghost use Prim.Native.Nat.{_≤_, _<_};
 ghost use lib.ListN.{length};
@@ -13,7 +13,7 @@ fn wide(byte: u8) -> usize
     byte as usize
 }
 
-// Prints the answer to the case that starts at `at`, and tells where the next one starts; the end where there is none.
+// Prints the listing of the case that starts at `at`, and returns where the next one starts; the end where there is none.
 fn run_case(cases: &[u8], at: usize) -> usize
     requires { ⌜ at ≤ length (now cases) ⌝ }
     ensures { λ r. ⌜ (r ≤ length (now (cases .entry))) × (at < length (now (cases .entry)) → at < r) ⌝ }
@@ -26,7 +26,7 @@ fn run_case(cases: &[u8], at: usize) -> usize
     if rest.len() - 2 < size {
         return cases.len();
     }
-    let mut out = [0u8; 4096];
+    let mut out = [0u8; lister::LISTING_ROOM];
     let length = lister::list(&rest[2..2 + size], &mut out);
     io::write_all(STDOUT_FILENO, &out[..length]);
     at + 2 + size

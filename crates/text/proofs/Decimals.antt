@@ -6,9 +6,9 @@
 --   decimal-short                   a number below 100000 has at most 5
 --   decimal-one, decimal-more       a number of one digit, and one with a digit more
 --   numerals                        the digits of a number of at most ten digits: the statement of specs/Numerals.antt
---   Digits                          the last digits of n, from place `start` + 1 on, and the rest of n
+--   Digits                          the last digits of n, from index `start` + 1 on, and the rest of n
 --   digits-start, digits-more       none of them, and one more
---   digits-room                     there is a place for one more
+--   digits-room                     there is room for one more
 --   digits-last                     the first digit of n makes them whole
 use mathlib.Core.Path.{_≡_, refl, sym, ap, _∙_, subst}
 use mathlib.Core.Logic.{⊎-elim}
@@ -156,7 +156,7 @@ numerals n h = record {
 
 pub record Digits (n : ℕ) (digits : List ℕ) (start rest : ℕ) : Type 0 where
   pub whole : length digits ≡ 10
-  pub place : start < 10
+  pub within : start < 10
   pub small : rest < 10 ^ suc start
   pub is : spell (suc start) rest ++ drop (suc start) digits ≡ decimal n
 
@@ -169,7 +169,7 @@ stored digits start d h =
 
 pub digits-start : (n : ℕ) → n < 2 ^ 32 → Digits n (replicate 10 48) 9 n
 unfolding decimal
-digits-start n h = record { whole = refl; place = omega arith; small = omega arith; is = append-nil (spell 10 n) }
+digits-start n h = record { whole = refl; within = omega arith; small = omega arith; is = append-nil (spell 10 n) }
 
 module _ {n : ℕ} {digits : List ℕ} {start rest : ℕ} (d : Digits n digits start rest) where
   pub digits-room : 10 ≤ rest → 0 < start
@@ -185,11 +185,11 @@ module _ {n : ℕ} {digits : List ℕ} {start rest : ℕ} (d : Digits n digits s
       let v : ℕ = digit (rest % 10) in
       record {
         whole = length-set digits start v ∙ d .whole;
-        place = omega (arith, d .place);
+        within = omega (arith, d .within);
         small = subst (λ (k : ℕ). rest / 10 < 10 ^ k) (sym e) (tenth start rest (d .small));
         is =
             subst (λ (k : ℕ). spell k (rest / 10) ++ drop k (set digits start v) ≡ decimal n) (sym e)
-            (ap (λ (xs : List ℕ). spell start (rest / 10) ++ xs) (stored digits start v (omega (arith, d .place, d .whole)))
+            (ap (λ (xs : List ℕ). spell start (rest / 10) ++ xs) (stored digits start v (omega (arith, d .within, d .whole)))
             ∙ sym (append-snoc (spell start (rest / 10)) v (drop (suc start) digits))
             ∙ ap (λ (xs : List ℕ). xs ++ drop (suc start) digits) (sym (spell-more start rest b))
             ∙ d .is);
@@ -199,6 +199,6 @@ module _ {n : ℕ} {digits : List ℕ} {start rest : ℕ} (d : Digits n digits s
   digits-last b =
       let xs : List ℕ = set digits start (digit rest) in
       take-all (10 - start) (drop start xs) (omega (arith, length-drop start xs, length-set digits start (digit rest), d .whole))
-      ∙ stored digits start (digit rest) (omega (arith, d .place, d .whole))
+      ∙ stored digits start (digit rest) (omega (arith, d .within, d .whole))
       ∙ ap (λ (ys : List ℕ). ys ++ drop (suc start) digits) (sym (spell-last start rest b))
       ∙ d .is

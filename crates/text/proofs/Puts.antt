@@ -2,6 +2,7 @@
 --
 --   put-fits, after-fits    the bytes fit
 --   put-over, after-over    they do not
+--   after-within            the offset after them does not leave the buffer
 --   length-put              a buffer keeps its length
 --   put-put                 some bytes, and others after them, where all fit
 use mathlib.Core.Path.{_≡_, sym, ap, _∙_}
@@ -14,7 +15,7 @@ use lib.ListN.{length, take, drop, length-append}
 use lib.Seq.{take-length, drop-drop, paste, length-paste, take-paste, drop-paste}
 use borrow.Author.Tests.{le-leb, lt-leb}
 use Rattle.algebra.proofs.Orders.{le-or-lt}
-use Rattle.text.specs.Decimal.{fits, put, after}
+use Rattle.text.specs.Contracts.{fits, put, after}
 
 module _ (buffer : List ℕ) (at : ℕ) (bytes : List ℕ) where
   pub put-fits : at + length bytes ≤ length buffer → put buffer at bytes ≡ paste buffer at bytes (length bytes)
@@ -32,6 +33,10 @@ module _ (buffer : List ℕ) (at : ℕ) (bytes : List ℕ) where
   pub after-over : length buffer < at + length bytes → after at bytes buffer ≡ at
   unfolding after fits
   after-over h = rw (lt-leb (at + length bytes) (length buffer) h)
+
+  pub after-within : at ≤ length buffer → after at bytes buffer ≤ length buffer
+  after-within within =
+      ⊎-elim (λ h. omega (arith, after-fits h)) (λ h. omega (arith, after-over h)) (le-or-lt (at + length bytes) (length buffer))
 
   pub length-put : length (put buffer at bytes) ≡ length buffer
   length-put =

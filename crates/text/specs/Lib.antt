@@ -1,3 +1,4 @@
--- Text in a buffer.
+-- Decimal numbers, and text in a buffer.
 pub mod Decimal
 pub mod Numerals
+pub mod Contracts

@@ -1,15 +1,18 @@
 // Text in a buffer: bytes, and numbers in decimal.
 ghost use mathlib.Core.Path.{_≡_};
-ghost use Rattle.text.specs.Decimal.{decimal, put, after};
+ghost use Rattle.text.specs.Decimal.{decimal};
+ghost use Rattle.text.specs.Contracts.{put, after};
 
+// The byte of the digit 0.
 const ZERO: u8 = 48;
 
-// How many digits a u32 has at most, and the last one's place.
+// How many digits a u32 has at most, and the last one's index.
 const DIGITS: usize = 10;
 
 const LAST_DIGIT: usize = DIGITS - 1;
 
-// Writes the bytes from place `at` on and tells the place after them. Where they do not fit, it writes nothing and tells `at`.
+// Writes the bytes from offset `at` on and returns the offset after them. Where they do not fit, it writes nothing and
+// returns `at`.
 pub fn put_bytes(out: &mut [u8], at: usize, bytes: &[u8]) -> usize
     ensures end { λ r. ⌜ r ≡ after at (now (bytes .entry)) (now (out .entry)) ⌝ }
     ensures text { λ _. ⌜ now (out .exit) ≡ put (now (out .entry)) at (now (bytes .entry)) ⌝ }
@@ -28,8 +31,8 @@ pub fn put_bytes(out: &mut [u8], at: usize, bytes: &[u8]) -> usize
     at + bytes.len()
 }
 
-// Writes the decimal digits of n from place `at` on and tells the place after them. Where they do not fit, it writes nothing
-// and tells `at`.
+// Writes the decimal digits of n from offset `at` on and returns the offset after them. Where they do not fit, it writes
+// nothing and returns `at`.
 pub fn put_decimal(out: &mut [u8], at: usize, n: u32) -> usize
     ensures end { λ r. ⌜ r ≡ after at (decimal n) (now (out .entry)) ⌝ }
     ensures text { λ _. ⌜ now (out .exit) ≡ put (now (out .entry)) at (decimal n) ⌝ }

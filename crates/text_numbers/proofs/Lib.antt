@@ -1,7 +1,7 @@
--- Laws of reading numbers and words from a text, and of places in it.
+-- Laws of reading numbers and words from a text, and of positions in it.
 pub mod Steps
 pub mod Texts
-pub mod Reading
+pub mod ReadLoop
 pub mod Written
 pub mod Words
-pub mod Places
+pub mod Positions

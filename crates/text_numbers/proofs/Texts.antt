@@ -1,7 +1,7 @@
 -- Laws of texts.
 --
 --   same-byte      within a list, what is taken to stand past its end does not matter
---   closed-byte    a text and its last line feed, from a place on
+--   closed-byte    a text and its last line feed, from an offset on
 use mathlib.Core.Path.{_≡_, refl}
 use mathlib.Core.List.{List, [], _∷_}
 use Prim.Native.Nat.{ℕ, zero, suc, _<_, _≤_}

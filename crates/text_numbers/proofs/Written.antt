@@ -16,8 +16,8 @@ use Rattle.algebra.proofs.Orders.{le-or-lt}
 use Rattle.text.specs.Decimal.{digit, spell, decimal}
 use Rattle.text.proofs.Decimals.{spell-last, spell-more, tenth}
 use Rattle.text_numbers.specs.declared.Part.{Part}
-use Rattle.text_numbers.specs.declared.Numbers.{Numbers}
-use Rattle.text_numbers.specs.Numbers.{within, isDigit, setsApart, apart, number, grown, fits, after, ends, ended, taken, reached, found, closed, reach, numbersOf, answer, written}
+use Rattle.text_numbers.specs.declared.ReadOutcome.{ReadOutcome}
+use Rattle.text_numbers.specs.Numbers.{within, isDigit, setsApart, apart, number, grown, fits, after, ends, ended, taken, reached, found, closed, reach, numbersOf, readOutcome, written}
 use Rattle.text_numbers.proofs.Steps.{fits-digit, after-digit, ended-none, reached-on, found-on}
 
 record Leads (p : Part) (bs ns : List ℕ) (q : Part) : Type 0 where
@@ -110,8 +110,8 @@ leads-written (n ∷ ns) below =
     (leads-on (10 ∷ []) (written ns) (n ∷ []) ns (leads-feed n) (leads-written ns (λ i l. below (suc i) (omega arith))))
 
 pub read-back : (ns : List ℕ) (room : ℕ) → AllBelow (2 ^ 32) ns → length ns ≤ room
-    → (answer (written ns) room ≡ Numbers.Read (length ns)) × (numbersOf (written ns) room ≡ ns)
-unfolding answer reach numbersOf closed reached found
+    → (readOutcome (written ns) room ≡ ReadOutcome.Read (length ns)) × (numbersOf (written ns) room ≡ ns)
+unfolding readOutcome reach numbersOf closed reached found
 read-back ns room below h =
     let text = leads-written ns below in
     let left = room - length ns in

@@ -1,4 +1,4 @@
--- Whole numbers and words in plain text, and places in a text.
+-- Whole numbers and words in plain text, and positions in a text.
 pub mod Numbers
 pub mod Words
-pub mod Places
+pub mod Positions

@@ -5,7 +5,7 @@
 -- directly. A number is one or more digits (48 to 57); leading zeros are allowed, and its value must be below 2^32. The end
 -- of the text ends a number too, as one more line feed would.
 -- Outside a comment, a fault is any other byte, a digit by which a value would reach 2^32, and a byte that ends a number for
--- which there is no room. A fault is told by its place in the text, counted from 0.
+-- which there is no room. A fault is told by its offset in the text, counted from 0.
 --
 --   within low high b      == b is low to high
 --   isDigit b              == b is the byte of a digit
@@ -24,9 +24,9 @@
 --   reached part room bs   == how many of the bytes bs stand before the first fault; all, where there is none
 --   found part room bs     == the numbers that end before the first fault
 --   closed text            == the text and one more line feed
---   reach text room        == the place of the first fault; one more than the text's length, where there is none
+--   reach text room        == the offset of the first fault; one more than the text's length, where there is none
 --   numbersOf text room    == the numbers of the text that end before the first fault; all, where there is none
---   answer text room       == what reading answers
+--   readOutcome text room  == what reading a text returns: how many numbers, or the offset of the first fault
 --   front ns out           == the output with the numbers ns at its front, and past them what it held
 --   written ns             == the text of the numbers ns: each in decimal, with a line feed after it
 use mathlib.Core.Bool.{Bool, true, false, not, cond, _&&_, _||_}
@@ -35,7 +35,7 @@ use Prim.Native.Nat.{ℕ, suc, _+_, _-_, _*_, _^_}
 use lib.Dec.{ltb, leb, eqb}
 use lib.ListN.{length, drop}
 use Rattle.text_numbers.specs.declared.Part.{Part}
-use Rattle.text_numbers.specs.declared.Numbers.{Numbers}
+use Rattle.text_numbers.specs.declared.ReadOutcome.{ReadOutcome}
 use Rattle.text.specs.Decimal.{decimal}
 
 unfoldable pub within : ℕ → ℕ → ℕ → Bool
@@ -92,9 +92,9 @@ reach text room = reached (apart false) room (closed text)
 unfoldable pub numbersOf : List ℕ → ℕ → List ℕ
 numbersOf text room = found (apart false) room (closed text)
 
-unfoldable pub answer : List ℕ → ℕ → Numbers
-answer text room =
-    cond (leb (reach text room) (length text)) (Numbers.Fault (reach text room)) (Numbers.Read (length (numbersOf text room)))
+unfoldable pub readOutcome : List ℕ → ℕ → ReadOutcome
+readOutcome text room =
+    cond (leb (reach text room) (length text)) (ReadOutcome.Fault (reach text room)) (ReadOutcome.Read (length (numbersOf text room)))
 
 unfoldable pub front : List ℕ → List ℕ → List ℕ
 front ns out = ns ++ drop (length ns) out

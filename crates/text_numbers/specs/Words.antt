@@ -2,18 +2,18 @@
 --
 -- A token is a run of bytes outside comments that do not set apart: a number, a word, or what is neither. A word is a token
 -- that begins with a letter, A to Z (65 to 90) or a to z (97 to 122), or with _ (95). So a letter after a digit begins no word.
--- Places are counted from 0.
+-- Offsets are counted from 0.
 --
 --   isLetter b                  == b is the byte of a letter, or _
 --   Before                      == what stands before a byte: whether a comment, whether a token that goes on
 --   gap                         == neither: what sets apart, or the front of the text
 --   next before b               == what stands before the byte after b
 --   begins words before b       == b begins a token; where words are looked for, a word
---   firstFrom words before bs   == the place of the first such byte of bs; their number, where there is none
---   firstToken text             == the place of the first token; the text's length, where there is none
---   firstWord text              == the place of the first word; the text's length, where there is none
---   tokenEnd text               == the place of the first byte that sets apart; the text's length, where there is none
---   byteAt text i               == the byte at place i; a line feed past the end
+--   firstFrom words before bs   == the offset of the first such byte of bs; their number, where there is none
+--   firstToken text             == the offset of the first token; the text's length, where there is none
+--   firstWord text              == the offset of the first word; the text's length, where there is none
+--   tokenEnd text               == the offset of the first byte that sets apart; the text's length, where there is none
+--   byteAt text at              == the byte at offset `at`; a line feed past the end
 --   markLength text             == how many bytes of the UTF-8 mark EF BB BF the text begins with: 3, or 0
 use mathlib.Core.Bool.{Bool, true, false, not, cond, _&&_, _||_}
 use mathlib.Core.List.{List, [], _∷_}
@@ -51,7 +51,7 @@ tokenEnd [] = 0
 tokenEnd (b ∷ bs) = cond (setsApart b) 0 (suc (tokenEnd bs))
 
 abbrev pub byteAt : List ℕ → ℕ → ℕ
-byteAt text i = getD text i 10
+byteAt text at = getD text at 10
 
 unfoldable pub markLength : List ℕ → ℕ
 markLength text = cond (eqb (byteAt text 0) 239 && eqb (byteAt text 1) 187 && eqb (byteAt text 2) 191) 3 0

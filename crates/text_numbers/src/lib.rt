@@ -1,4 +1,4 @@
-// Whole numbers and words read from plain text, and places in a text by line and column. `specs/Numbers.antt` and
+// Whole numbers and words read from plain text, and positions in a text by line and column. `specs/Numbers.antt` and
 // `specs/Words.antt` have the format.
 ghost use mathlib.Core.Path.{_≡_};
 ghost use mathlib.Core.Bool.{true};
@@ -14,7 +14,7 @@ ghost use Rattle.text_numbers.specs.Numbers.{
   after,
   ends,
   numbersOf,
-  answer,
+  readOutcome,
   front,
 };
 ghost use Rattle.text_numbers.specs.Words.{
@@ -29,9 +29,10 @@ ghost use Rattle.text_numbers.specs.Words.{
   byteAt,
   markLength,
 };
-ghost use Rattle.text_numbers.specs.Places.{paired, moved, placeOf};
+ghost use Rattle.text_numbers.specs.Positions.{paired, moved, positionOf};
 use words::least;
 
+// The bytes that set apart.
 const SPACE: u8 = 32;
 
 const TAB: u8 = 9;
@@ -43,23 +44,25 @@ const CARRIAGE_RETURN: u8 = 13;
 // The sign # that begins a comment.
 const COMMENT: u8 = 35;
 
+// The first and the last digit.
 const ZERO: u8 = 48;
 
 const NINE: u8 = 57;
 
+// What may begin a word beside a letter.
 const UNDERSCORE: u8 = 95;
 
 // The least value that is too large: 2^32.
 const LIMIT: u64 = 4294967296;
 
-// What reading answers: how many numbers were read, or the place of the first fault.
-pub enum Numbers {
+// What reading a text returns: how many numbers were read, or the offset of the first fault.
+pub enum ReadOutcome {
     Read(usize),
     Fault(usize),
 }
 
-// A place in a text, with line and column from 1.
-pub struct Place {
+// A position in a text, with line and column from 1.
+pub struct Position {
     pub line: usize,
     pub column: usize,
 }
@@ -162,18 +165,18 @@ fn ends_number(part: Part, byte: u8) -> bool
     part.begun && !is_digit(byte)
 }
 
-// The byte at a place of the text, and a line feed past its end.
-fn byte_at(text: &[u8], i: usize) -> u8
-    ensures { λ r. ⌜ r ≡ byteAt (now (text .entry)) i ⌝ }
+// The byte at an offset of the text, and a line feed past its end.
+fn byte_at(text: &[u8], at: usize) -> u8
+    ensures { λ r. ⌜ r ≡ byteAt (now (text .entry)) at ⌝ }
 {
-    if i < text.len() { text[i] } else { LINE_FEED }
+    if at < text.len() { text[at] } else { LINE_FEED }
 }
 
-// Reads the numbers of the text to the front of the output, one after another, and tells how many. At a fault it stops and
-// tells the place.
-pub fn read_numbers(text: &[u8], out: &mut [u32]) -> Numbers
-    ensures outcome { λ r. ⌜ r ≡ answer (now (text .entry)) (length (now (out .entry))) ⌝ }
-    ensures output { λ _. ⌜ now (out .exit) ≡ front (numbersOf (now (text .entry)) (length (now (out .entry)))) (now (out .entry)) ⌝ }
+// Reads the numbers of the text to the front of the output, one after another, and returns how many. At a fault it stops and
+// returns its offset.
+pub fn read_numbers(text: &[u8], out: &mut [u32]) -> ReadOutcome
+    ensures outcome { λ r. ⌜ r ≡ readOutcome (now (text .entry)) (length (now (out .entry))) ⌝ }
+    ensures output { λ _. let was = now (out .entry) in ⌜ now (out .exit) ≡ front (numbersOf (now (text .entry)) (length was)) was ⌝ }
 {
     let mut part = Part {
         comment: false,
@@ -185,11 +188,11 @@ pub fn read_numbers(text: &[u8], out: &mut [u32]) -> Numbers
     while i <= text.len() {
         let byte = byte_at(text, i);
         if !fits_in(part, byte) {
-            return Numbers::Fault(i);
+            return ReadOutcome::Fault(i);
         }
         if ends_number(part, byte) {
             if n == out.len() {
-                return Numbers::Fault(i);
+                return ReadOutcome::Fault(i);
             }
             out[n] = part.value;
             n += 1;
@@ -197,10 +200,10 @@ pub fn read_numbers(text: &[u8], out: &mut [u32]) -> Numbers
         part = part_after(part, byte);
         i += 1;
     }
-    Numbers::Read(n)
+    ReadOutcome::Read(n)
 }
 
-// A digit stands at a place of the text. Where reading has found a fault at it, the number is too large.
+// A digit stands at an offset of the text. Where reading has found a fault at it, the number is too large.
 pub fn is_digit_at(text: &[u8], at: usize) -> bool
     ensures { λ r. ⌜ r ≡ isDigit (byteAt (now (text .entry)) at) ⌝ }
 {
@@ -251,7 +254,7 @@ fn begins_one(words: bool, before: Before, byte: u8) -> bool
     !sets_apart(byte)
 }
 
-// The place of the first token, or word where words are looked for; the text's length, where there is none.
+// The offset of the first token, or word where words are looked for; the text's length, where there is none.
 fn first_of(text: &[u8], words: bool) -> usize
     ensures { λ r. ⌜ r ≡ firstFrom words gap (now (text .entry)) ⌝ }
 {
@@ -271,21 +274,21 @@ fn first_of(text: &[u8], words: bool) -> usize
     i
 }
 
-// The place of the first token of the text; its length, where there is none.
+// The offset of the first token of the text; its length, where there is none.
 pub fn first_token(text: &[u8]) -> usize
     ensures { λ r. ⌜ r ≡ firstToken (now (text .entry)) ⌝ }
 {
     first_of(text, false)
 }
 
-// The place of the first word of the text; its length, where there is none.
+// The offset of the first word of the text; its length, where there is none.
 pub fn first_word(text: &[u8]) -> usize
     ensures { λ r. ⌜ r ≡ firstWord (now (text .entry)) ⌝ }
 {
     first_of(text, true)
 }
 
-// The end of the token at the front of the text: the place of the first byte that sets apart, or the text's length.
+// The end of the token at the front of the text: the offset of the first byte that sets apart, or the text's length.
 pub fn token_end(text: &[u8]) -> usize
     ensures { λ r. ⌜ r ≡ tokenEnd (now (text .entry)) ⌝ }
 {
@@ -315,7 +318,7 @@ pub fn mark_length(text: &[u8]) -> usize
     3
 }
 
-// ---- places
+// ---- positions
 
 // The byte is the line feed after a carriage return.
 fn is_paired(before: u8, byte: u8) -> bool
@@ -324,39 +327,39 @@ fn is_paired(before: u8, byte: u8) -> bool
     before == CARRIAGE_RETURN && byte == LINE_FEED
 }
 
-// The place after one more byte. The line feed after a carriage return moves nothing: the line has ended.
-fn place_after(before: u8, place: Place, byte: u8) -> Place
-    requires { ⌜ (place .line < 2 ^ 63) × (place .column < 2 ^ 63) ⌝ }
-    ensures { λ r. ⌜ r ≡ moved before place byte ⌝ }
+// The position after one more byte. The line feed after a carriage return moves nothing: the line has ended.
+fn position_after(before: u8, position: Position, byte: u8) -> Position
+    requires { ⌜ (position .line < 2 ^ 63) × (position .column < 2 ^ 63) ⌝ }
+    ensures { λ r. ⌜ r ≡ moved before position byte ⌝ }
 {
     if is_paired(before, byte) {
-        return place;
+        return position;
     }
     if ends_line(byte) {
-        return Place {
-            line: place.line + 1,
+        return Position {
+            line: position.line + 1,
             column: 1,
         };
     }
-    Place {
-        line: place.line,
-        column: place.column + 1,
+    Position {
+        line: position.line,
+        column: position.column + 1,
     }
 }
 
-// The line and the column of the byte at a place of the text; at the text's length and beyond, those of its end.
-pub fn place_of(text: &[u8], at: usize) -> Place
-    ensures { λ r. ⌜ r ≡ placeOf (now (text .entry)) at ⌝ }
+// The position of the byte at an offset of the text; at the text's length and beyond, that of its end.
+pub fn position_of(text: &[u8], at: usize) -> Position
+    ensures { λ r. ⌜ r ≡ positionOf (now (text .entry)) at ⌝ }
 {
     let end = least(at, text.len());
-    let mut place = Place { line: 1, column: 1 };
+    let mut position = Position { line: 1, column: 1 };
     let mut before = 0;
     let mut i = 0;
     while i < end {
         let byte = text[i];
-        place = place_after(before, place, byte);
+        position = position_after(before, position, byte);
         before = byte;
         i += 1;
     }
-    place
+    position
 }

@@ -7,8 +7,7 @@ use Rattle.plan.specs.declared.Job.{Job}
 use Rattle.plan.specs.declared.Planned.{Planned}
 use Rattle.plan.specs.Planning.{planned}
 use Rattle.lister_line.specs.declared.Line.{Line}
-use Rattle.lister.specs.Listing.{jobOf, told, listing}
-use native.Mathlib.Omega.{arith}
+use Rattle.lister.specs.Listing.{jobOf, replyText, listing}
 use Rattle.lister.proofs.Replies.{listed, malformed, replied}
 use borrow.Author.Needs.{needs}
 use Rattle.lister.proofs.list.Statement.{statement}
@@ -24,7 +23,7 @@ returns : tie.Need-returns
 returns c =
     let e = c .before .before .before .before .before .before in
     let not-ok = ap (λ (l : Line). l .ok) (sym (c .before .before .before .before .read-line .ensures)) ∙ not-true _ (c .before .before .if1 .taken) in
-    listed (e .args .input .now) (malformed (e .args .input .now) not-ok) (omega arith) (c .put-refused .ensures)
+    listed (e .args .input .now) (malformed (e .args .input .now) not-ok) (c .put-refused .ensures)
 
 job-of-requires : tie.Need-job-of-requires
 job-of-requires c κs = search needs
@@ -35,8 +34,8 @@ plan-of-requires c κs = search needs
 enum-known-plan : tie.Need-enum-known-plan
 enum-known-plan c = search needs
 
-put-plan-requires : tie.Need-put-plan-requires
-put-plan-requires c κs = search needs
+list-plan-requires : tie.Need-list-plan-requires
+list-plan-requires c κs = search needs
 
 enum-known-n : tie.Need-enum-known-n
 enum-known-n c = search needs
@@ -44,23 +43,29 @@ enum-known-n c = search needs
 put-refused-requires-2 : tie.Need-put-refused-requires-2
 put-refused-requires-2 c κs = search needs
 
--- what planning answers is what is printed
-reply-is : (c : tie.After-plan-of) {answer : Planned} → c .plan-of .result ≡ answer → told (c .before .job-of .result .hosts) answer ≡ listing (c .before .before .before .before .before .before .before .args .input .now)
-reply-is c {answer} is =
+-- the text of what planning returns is what is printed
+reply-is : (c : tie.After-plan-of) {outcome : Planned} → c .plan-of .result ≡ outcome → replyText (c .before .job-of .result .hosts) outcome ≡ listing (c .before .before .before .before .before .before .before .args .input .now)
+reply-is c {outcome} is =
     let input = c .before .before .before .before .before .before .before .args .input .now in
     let line = c .before .before .before .before .before .read-line in
     let ok = ap (λ (l : Line). l .ok) (sym (line .ensures)) ∙ not-false _ (c .before .before .before .if1 .left) in
     let job-is = c .before .job-of .ensures ∙ ap (λ (l : Line). jobOf (l .numbers)) (line .ensures) in
-    ap (λ (j : Job). told (j .hosts) answer) job-is
+    ap (λ (j : Job). replyText (j .hosts) outcome) job-is
     ∙ replied input ok (sym is ∙ c .plan-of .ensures ∙ ap (λ (j : Job). planned j (tab suc (j .hosts))) job-is)
 
 returns-2 : tie.Need-returns-2
-unfolding told
-returns-2 c = listed (c .before .before .before .before .before .before .before .before .before .before .before .before .args .input .now) (reply-is (c .before .before .before .before .before) (c .before .before .before .plan .given .1)) (omega arith) (c .put-plan .ensures)
+unfolding replyText
+returns-2 c =
+    let outcome = c .before .before .before .before .before in
+    let start = outcome .before .before .before .before .before .before .before in
+    listed (start .args .input .now) (reply-is outcome (c .before .before .before .plan .given .1)) (c .list-plan .ensures)
 
 returns-3 : tie.Need-returns-3
-unfolding told
-returns-3 c = listed (c .before .before .before .before .before .before .before .before .before .before .before .before .args .input .now) (reply-is (c .before .before .before .before .before) (c .before .before .before .n .given .1)) (omega arith) (c .put-refused2 .ensures)
+unfolding replyText
+returns-3 c =
+    let outcome = c .before .before .before .before .before in
+    let start = outcome .before .before .before .before .before .before .before in
+    listed (start .args .input .now) (reply-is outcome (c .before .before .before .n .given .1)) (c .put-refused2 .ensures)
 
 pub list-spec : {M : Type 1} → statement M
 list-spec =
@@ -72,7 +77,7 @@ list-spec =
     job-of-requires
     plan-of-requires
     enum-known-plan
-    put-plan-requires
+    list-plan-requires
     enum-known-n
     put-refused-requires-2
     returns-2

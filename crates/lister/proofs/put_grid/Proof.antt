@@ -3,20 +3,20 @@ use mathlib.Core.Path.{_≡_}
 use Prim.Native.Nat.{_-_, _≤_}
 use native.Mathlib.Numerals.{add-one}
 use native.Mathlib.Omega.{arith}
-use Rattle.layout.specs.Exponents.{exponents, term}
+use Rattle.layout.specs.Contracts.{exponentBy}
 use Rattle.algebra.specs.Lists.{grid}
 use Rattle.lister.specs.Listing.{values}
-use Rattle.lister.specs.Writing.{Writes}
+use Rattle.lister.specs.Contracts.{Writes}
 use Rattle.lister.proofs.Writes.{writes-nothing, then, grid-more}
 use Rattle.lister.proofs.put_grid.Statement.{statement}
 use Rattle.lister.proofs.put_grid.Tie as tie
 
 abbrev Inv-loop : tie.InvT-loop
-Inv-loop out₀ at series layout g rows columns next₀ i₀ out next i =
-    record { short : i ≤ rows; is : Writes out₀ at (values (grid (term (exponents layout g) series) i columns)) out next }
+Inv-loop out₀ at series s rows columns next₀ i₀ out next i =
+    record { short : i ≤ rows; is : Writes out₀ at (values (grid (exponentBy s series) i columns)) out next }
 
 abbrev μ-loop : tie.MeasureT-loop
-μ-loop out₀ at series layout g rows columns next₀ i₀ out next i = rows - i
+μ-loop out₀ at series s rows columns next₀ i₀ out next i = rows - i
 
 loop-holds : tie.Need-loop-holds Inv-loop μ-loop
 unfolding grid values
@@ -36,7 +36,7 @@ loop-again c =
     let a = c .before .before .before .before .before .before .before .args in
     record {
       short = omega arith;
-      is = rw (add-one, grid-more (term (exponents (a .layout) (a .g)) (a .series)) (a .columns)) (then (c .before .before .before .before .before .loop .inv .is) (c .before .before .put-row .ensures));
+      is = rw (add-one, grid-more (exponentBy (a .s) (a .series)) (a .columns)) (then (c .before .before .before .before .before .loop .inv .is) (c .before .before .put-row .ensures));
     }
 
 same-length : tie.Need-same-length Inv-loop μ-loop

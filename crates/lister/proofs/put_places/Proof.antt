@@ -1,5 +1,6 @@
 -- `lister::put_places` meets its contract.
-use Rattle.lister.specs.Listing.{ascii, line, cLine}
+use Rattle.lister.specs.Listing.{ascii, line}
+use Rattle.lister.specs.Contracts.{placesText}
 use Rattle.lister.proofs.Writes.{writes, then}
 use borrow.Author.Needs.{needs}
 use Rattle.lister.proofs.put_places.Statement.{statement}
@@ -24,7 +25,7 @@ same-length : tie.Need-same-length
 same-length c = search needs
 
 returns : tie.Need-returns
-unfolding cLine line
+unfolding placesText line
 returns c =
     let e = c .before .before .before .before .before .before .before .before .before .before .before .before .before .before .before in
     let label = c .before .before .before .before .before .before .before .before .before .before .before .put-bytes in

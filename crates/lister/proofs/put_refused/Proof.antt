@@ -1,6 +1,8 @@
 -- `lister::put_refused` meets its contract.
-use Rattle.lister.specs.Listing.{refusedText}
+use native.Mathlib.Omega.{arith}
 use borrow.Author.Needs.{needs}
+use Rattle.lister.specs.Listing.{refusedText}
+use Rattle.lister.proofs.Writes.{lists}
 use Rattle.lister.proofs.put_refused.Statement.{statement}
 use Rattle.lister.proofs.put_refused.Tie as tie
 
@@ -10,13 +12,9 @@ slice-aggregate-put-line c = search needs
 put-line-requires : tie.Need-put-line-requires
 put-line-requires c κs = search needs
 
-same-length : tie.Need-same-length
-same-length c = search needs
-
 returns : tie.Need-returns
 unfolding refusedText
-returns c = c .before .before .put-line .ensures
+returns c = lists (omega arith) (c .put-line .ensures)
 
 pub put-refused-spec : {M : Type 1} → statement M
-put-refused-spec =
-    tie.close (tie.spec slice-aggregate-put-line put-line-requires same-length returns)
+put-refused-spec = tie.close (tie.spec slice-aggregate-put-line put-line-requires returns)

@@ -4,19 +4,19 @@ use Prim.Native.Nat.{_-_, _≤_}
 use native.Mathlib.Numerals.{add-one}
 use native.Mathlib.Omega.{arith}
 use Rattle.algebra.specs.Lists.{tab}
-use Rattle.layout.specs.Exponents.{exponents, term}
+use Rattle.layout.specs.Contracts.{exponentBy}
 use Rattle.lister.specs.Listing.{values}
-use Rattle.lister.specs.Writing.{Writes}
+use Rattle.lister.specs.Contracts.{Writes}
 use Rattle.lister.proofs.Writes.{writes-nothing, then, row-more}
 use Rattle.lister.proofs.put_row.Statement.{statement}
 use Rattle.lister.proofs.put_row.Tie as tie
 
 abbrev Inv-loop : tie.InvT-loop
-Inv-loop out₀ at series layout g i columns next₀ j₀ out next j =
-    record { short : j ≤ columns; is : Writes out₀ at (values (tab (term (exponents layout g) series i) j)) out next }
+Inv-loop out₀ at series s i columns next₀ j₀ out next j =
+    record { short : j ≤ columns; is : Writes out₀ at (values (tab (exponentBy s series i) j)) out next }
 
 abbrev μ-loop : tie.MeasureT-loop
-μ-loop out₀ at series layout g i columns next₀ j₀ out next j = columns - j
+μ-loop out₀ at series s i columns next₀ j₀ out next j = columns - j
 
 loop-holds : tie.Need-loop-holds Inv-loop μ-loop
 unfolding tab values
@@ -40,7 +40,7 @@ loop-again c =
     let w = rw (c .before .before .before .exponent-of .ensures) at (c .before .before .put-value .ensures) in
     record {
       short = omega arith;
-      is = rw (add-one, row-more (term (exponents (a .layout) (a .g)) (a .series) (a .i))) (then (c .before .before .before .before .before .before .loop .inv .is) w);
+      is = rw (add-one, row-more (exponentBy (a .s) (a .series) (a .i))) (then (c .before .before .before .before .before .before .loop .inv .is) w);
     }
 
 same-length : tie.Need-same-length Inv-loop μ-loop

@@ -1,7 +1,7 @@
 -- `lister::put_side` meets its contract.
 use mathlib.Core.List.{[], _∷_}
 use Rattle.lister.specs.Listing.{ascii, sideLine}
-use Rattle.lister.specs.Writing.{sideText}
+use Rattle.lister.specs.Contracts.{sideText}
 use Rattle.lister.proofs.Writes.{writes, then}
 use borrow.Author.Needs.{needs}
 use Rattle.lister.proofs.put_side.Statement.{statement}
@@ -43,7 +43,7 @@ returns c =
     let bar = c .before .before .before .before .before .before .before .before .before .before .before .put-bytes2 in
     let masks = c .before .before .before .before .before .before .before .put-row in
     let end = c .before .before .put-bytes3 in
-    then (writes (e .args .out .now) (e .args .at) (e .args .side .label ∷ []) (label .ensures))
+    then (writes (e .args .out .now) (e .args .at) (e .args .line .label ∷ []) (label .ensures))
     (then (blocks .ensures)
     (then (writes (blocks .last .0) (blocks .result) (ascii " |") (bar .ensures))
     (then (masks .ensures) (writes (masks .last .0) (masks .result) (ascii "\n") (end .ensures)))))

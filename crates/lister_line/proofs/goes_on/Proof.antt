@@ -1,5 +1,5 @@
 -- `lister_line::goes_on` meets its contract.
-use Rattle.lister_line.specs.Steps.{goesOn}
+use Rattle.lister_line.specs.Contracts.{goesOn}
 use Rattle.lister_line.proofs.goes_on.Statement.{statement}
 use Rattle.lister_line.proofs.goes_on.Tie as tie
 

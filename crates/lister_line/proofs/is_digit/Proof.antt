@@ -1,6 +1,6 @@
 -- `lister_line::is_digit` meets its contract.
 use borrow.Author.Tests.{le-leb, lt-leb}
-use Rattle.lister_line.specs.Steps.{isDigit}
+use Rattle.lister_line.specs.Contracts.{isDigit}
 use Rattle.lister_line.proofs.is_digit.Statement.{statement}
 use Rattle.lister_line.proofs.is_digit.Tie as tie
 

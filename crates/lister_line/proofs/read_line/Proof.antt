@@ -6,18 +6,18 @@ use native.Mathlib.Numerals.{add-one}
 use lib.Seq.{take-all}
 use lib.ListN.{length, getD, take}
 use borrow.Author.Needs.{needs}
-use Rattle.lister_line.specs.declared.Reading.{Reading}
-use Rattle.lister_line.specs.Steps.{nothing, run, step}
+use Rattle.lister_line.specs.declared.Progress.{Progress}
+use Rattle.lister_line.specs.Contracts.{nothing, run, step}
 use Rattle.lister_line.proofs.Steps.{run-more, line-is}
 use Rattle.lister_line.proofs.read_line.Statement.{statement}
 use Rattle.lister_line.proofs.read_line.Tie as tie
 
 abbrev Inv-loop : tie.InvT-loop
-Inv-loop input r₀ i₀ r i =
-    record { few : i ≤ length input; is : r ≡ run nothing (take i input) }
+Inv-loop input p₀ i₀ p i =
+    record { few : i ≤ length input; is : p ≡ run nothing (take i input) }
 
 abbrev μ-loop : tie.MeasureT-loop
-μ-loop input r₀ i₀ r i = length input - i
+μ-loop input p₀ i₀ p i = length input - i
 
 loop-holds : tie.Need-loop-holds Inv-loop μ-loop
 unfolding run nothing
@@ -43,22 +43,22 @@ loop-again c =
       few = omega arith;
       is =
           c .read-byte .ensures
-          ∙ ap (λ (r : Reading). step r (getD input (l .i) 0)) (l .inv .is)
+          ∙ ap (λ (p : Progress). step p (getD input (l .i) 0)) (l .inv .is)
           ∙ sym (run-more nothing input (l .i) (c .before .before .loop-test .taken))
           ∙ ap (λ (k : ℕ). run nothing (take k input)) (sym (add-one (l .i)));
     }
 
--- the reading of the whole input
-whole : (c : tie.After-loop Inv-loop μ-loop) → c .before .loop .r ≡ run nothing (c .before .before .before .args .input .now)
+-- the progress over the whole input
+whole : (c : tie.After-loop Inv-loop μ-loop) → c .before .loop .p ≡ run nothing (c .before .before .before .args .input .now)
 whole c =
     c .before .loop .inv .is
     ∙ ap (run nothing) (take-all (c .before .loop .i) (c .before .before .before .args .input .now) (c .loop-test .left))
 
 returns : tie.Need-returns Inv-loop μ-loop
-returns c = line-is _ (c .before .before .before .loop .r) _ (whole (c .before .before)) (rw (c .if1 .taken))
+returns c = line-is _ (c .before .before .before .loop .p) _ (whole (c .before .before)) (rw (c .if1 .taken))
 
 returns-2 : tie.Need-returns-2 Inv-loop μ-loop
-returns-2 c = line-is _ (c .before .before .before .loop .r) _ (whole (c .before .before)) (rw (c .if1 .left))
+returns-2 c = line-is _ (c .before .before .before .loop .p) _ (whole (c .before .before)) (rw (c .if1 .left))
 
 pub read-line-spec : {M : Type 1} → statement M
 read-line-spec =

@@ -1,6 +1,6 @@
 -- `lister_line::separator_after` meets its contract.
 use borrow.Author.Tests.{eq-eqb, ne-eqb}
-use Rattle.lister_line.specs.Steps.{separator}
+use Rattle.lister_line.specs.Contracts.{separator}
 use Rattle.lister_line.proofs.separator_after.Statement.{statement}
 use Rattle.lister_line.proofs.separator_after.Tie as tie
 

@@ -3,7 +3,7 @@ use mathlib.Core.Path.{_≡_, sym, _∙_}
 use mathlib.Core.Bool.{true}
 use borrow.Author.Tests.{not-true, not-false}
 use borrow.Author.Needs.{needs}
-use Rattle.lister_line.specs.Steps.{goesOn, takesDigit}
+use Rattle.lister_line.specs.Contracts.{goesOn, takesDigit}
 use Rattle.lister_line.proofs.takes_digit.Statement.{statement}
 use Rattle.lister_line.proofs.takes_digit.Tie as tie
 
@@ -21,7 +21,7 @@ may-grow-requires : tie.Need-may-grow-requires
 may-grow-requires c κs = search needs
 
 -- the line goes on
-on : (c : tie.Else1) → goesOn (c .before .before .args .r) ≡ true
+on : (c : tie.Else1) → goesOn (c .before .before .args .p) ≡ true
 on c = sym (c .before .goes-on .ensures) ∙ not-false _ (c .if1 .left)
 
 returns-2 : tie.Need-returns-2

@@ -5,7 +5,7 @@ use Prim.Native.Nat.{ℕ}
 use lib.Dec.{eqb}
 use borrow.Author.Tests.{not-true, not-false}
 use borrow.Author.Needs.{needs}
-use Rattle.lister_line.specs.Steps.{goesOn, takesEnd}
+use Rattle.lister_line.specs.Contracts.{goesOn, takesEnd}
 use Rattle.lister_line.proofs.takes_end.Statement.{statement}
 use Rattle.lister_line.proofs.takes_end.Tie as tie
 
@@ -20,7 +20,7 @@ separator-after-requires : tie.Need-separator-after-requires
 separator-after-requires c κs = search needs
 
 -- the line goes on
-on : (c : tie.Else1) → goesOn (c .before .before .args .r) ≡ true
+on : (c : tie.Else1) → goesOn (c .before .before .args .p) ≡ true
 on c = sym (c .before .goes-on .ensures) ∙ not-false _ (c .if1 .left)
 
 returns-2 : tie.Need-returns-2

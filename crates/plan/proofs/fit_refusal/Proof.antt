@@ -1,52 +1,71 @@
 -- `plan::fit_refusal` meets its contract.
+use native.Mathlib.Omega.{arith}
+use borrow.Author.Tests.{lt-ltb, le-ltb}
 use Rattle.refusal.specs.Chain.{first}
-use Rattle.plan.specs.Planning.{fitTests}
+use Rattle.plan.specs.Planning.{fitTests, blockRows, blockInner, blockColumns}
+use Rattle.plan.proofs.Ranges.{ranged}
 use borrow.Author.Needs.{needs}
 use Rattle.plan.proofs.fit_refusal.Statement.{statement}
 use Rattle.plan.proofs.fit_refusal.Tie as tie
 
-division-test-requires : tie.Need-division-test-requires
-division-test-requires c κs = search needs
+rem-if1 : tie.Need-rem-if1
+rem-if1 c = let h = ranged _ (c .before .pre .0) in omega arith
+
+rem-if1-2 : tie.Need-rem-if1-2
+rem-if1-2 c = let h = ranged _ (c .before .before .pre .0) in omega arith
+
+rem-if1-3 : tie.Need-rem-if1-3
+rem-if1-3 c = let h = ranged _ (c .before .before .before .pre .0) in omega arith
 
 returns : tie.Need-returns
 unfolding first fitTests
-returns c = rw (← c .before .division-test .ensures, c .if1 .taken)
+returns c = rw (c .if1 .taken)
 
-block-test-requires : tie.Need-block-test-requires
-block-test-requires c κs = search needs
+div-over-block : tie.Need-div-over-block
+div-over-block c = let h = ranged _ (c .before .before .before .before .before .pre .0) in omega arith
+
+div-over-block-2 : tie.Need-div-over-block-2
+div-over-block-2 c = let h = ranged _ (c .before .before .before .before .before .before .pre .0) in omega arith
+
+div-over-block-3 : tie.Need-div-over-block-3
+div-over-block-3 c = let h = ranged _ (c .before .before .before .before .before .before .before .pre .0) in omega arith
+
+over-block-requires : tie.Need-over-block-requires
+over-block-requires c κs = search needs
 
 returns-2 : tie.Need-returns-2
-unfolding first fitTests
-returns-2 c = rw (← c .before .before .before .division-test .ensures, c .before .before .if1 .left, ← c .before .block-test .ensures, c .if2 .taken)
+unfolding first fitTests blockRows blockInner blockColumns
+returns-2 c = rw (c .before .before .before .before .before .if1 .left, ← c .before .over-block .ensures, c .if2 .taken)
 
-hosts-test-requires : tie.Need-hosts-test-requires
-hosts-test-requires c κs = search needs
+outside-requires : tie.Need-outside-requires
+outside-requires c κs = search needs
 
 returns-3 : tie.Need-returns-3
-unfolding first fitTests
-returns-3 c = rw (← c .before .before .before .before .before .division-test .ensures, c .before .before .before .before .if1 .left, ← c .before .before .before .block-test .ensures, c .before .before .if2 .left, ← c .before .hosts-test .ensures, c .if3 .taken)
-
-needed-test-requires : tie.Need-needed-test-requires
-needed-test-requires c κs = search needs
+unfolding first fitTests blockRows blockInner blockColumns
+returns-3 c = rw (c .before .before .before .before .before .before .before .before .if1 .left, ← c .before .before .before .before .over-block .ensures, c .before .before .before .if2 .left, ← c .before .before .outside .ensures, ← c .before .before .before .before .before .before .before .before .before .before .before .before .pre .1 .0, c .if3 .taken)
 
 returns-4 : tie.Need-returns-4
-unfolding first fitTests
-returns-4 c = rw (← c .before .before .before .before .before .before .before .division-test .ensures, c .before .before .before .before .before .before .if1 .left, ← c .before .before .before .before .before .block-test .ensures, c .before .before .before .before .if2 .left, ← c .before .before .before .hosts-test .ensures, c .before .before .if3 .left, ← c .before .needed-test .ensures, c .if4 .taken)
+unfolding first fitTests blockRows blockInner blockColumns
+returns-4 c = rw (c .before .before .before .before .before .before .before .before .before .before .if1 .left, ← c .before .before .before .before .before .before .over-block .ensures, c .before .before .before .before .before .if2 .left, ← c .before .before .before .before .outside .ensures, ← c .before .before .before .before .before .before .before .before .before .before .before .before .before .before .pre .1 .0, c .before .before .if3 .left, ← c .before .before .before .before .before .before .before .before .before .before .before .before .before .before .pre .1 .1, lt-ltb _ _ (c .if4 .taken))
 
 returns-5 : tie.Need-returns-5
-unfolding first fitTests
-returns-5 c = rw (← c .before .before .before .before .before .before .before .division-test .ensures, c .before .before .before .before .before .before .if1 .left, ← c .before .before .before .before .before .block-test .ensures, c .before .before .before .before .if2 .left, ← c .before .before .before .hosts-test .ensures, c .before .before .if3 .left, ← c .before .needed-test .ensures, c .if4 .left)
+unfolding first fitTests blockRows blockInner blockColumns
+returns-5 c = rw (c .before .before .before .before .before .before .before .before .before .before .if1 .left, ← c .before .before .before .before .before .before .over-block .ensures, c .before .before .before .before .before .if2 .left, ← c .before .before .before .before .outside .ensures, ← c .before .before .before .before .before .before .before .before .before .before .before .before .before .before .pre .1 .0, c .before .before .if3 .left, ← c .before .before .before .before .before .before .before .before .before .before .before .before .before .before .pre .1 .1, le-ltb _ _ (c .if4 .left))
 
 pub fit-refusal-spec : {M : Type 1} → statement M
 fit-refusal-spec =
     tie.close
     (tie.spec
-    division-test-requires
+    rem-if1
+    rem-if1-2
+    rem-if1-3
     returns
-    block-test-requires
+    div-over-block
+    div-over-block-2
+    div-over-block-3
+    over-block-requires
     returns-2
-    hosts-test-requires
+    outside-requires
     returns-3
-    needed-test-requires
     returns-4
     returns-5)

@@ -31,18 +31,15 @@ mul-x c = omega arith
 shared-slice-read-x : tie.Need-shared-slice-read-x Inv-loop μ-loop
 shared-slice-read-x c = omega arith
 
-either-requires : tie.Need-either-requires Inv-loop μ-loop
-either-requires c κs = tt
-
 returns-2 : tie.Need-returns-2 Inv-loop μ-loop
 unfolding pointTestsAt
 returns-2 c =
-    let e = c .before .before .before .before .before .before .before in
-    let i = c .before .before .before .before .loop .i in
+    let e = c .before .before .before .before .before .before in
+    let i = c .before .before .before .loop .i in
     let x = getD (e .args .points .now) i 0 in
-    sym (length-same (e .args .q) (e .args .points .now) (e .args .hosts) (c .before .before .before .before .before .if1 .left)
-    ∙ stop-point (e .args .q) (e .args .points .now) i (length (e .args .points .now)) 9 (omega arith) (c .before .before .before .before .loop .inv .pass)
-    (first-hit _ 10 _ (sym (c .before .either .ensures) ∙ c .if2 .taken)))
+    sym (length-same (e .args .q) (e .args .points .now) (e .args .hosts) (c .before .before .before .before .if1 .left)
+    ∙ stop-point (e .args .q) (e .args .points .now) i (length (e .args .points .now)) 9 (omega arith) (c .before .before .before .loop .inv .pass)
+    (first-hit _ 10 _ (c .if2 .taken)))
 
 stands-before-requires : tie.Need-stands-before-requires Inv-loop μ-loop
 stands-before-requires c κs = omega arith
@@ -50,12 +47,12 @@ stands-before-requires c κs = omega arith
 returns-3 : tie.Need-returns-3 Inv-loop μ-loop
 unfolding pointTestsAt
 returns-3 c =
-    let e = c .before .before .before .before .before .before .before .before .before in
-    let i = c .before .before .before .before .before .before .loop .i in
+    let e = c .before .before .before .before .before .before .before .before in
+    let i = c .before .before .before .before .before .loop .i in
     let x = getD (e .args .points .now) i 0 in
-    sym (length-same (e .args .q) (e .args .points .now) (e .args .hosts) (c .before .before .before .before .before .before .before .if1 .left)
-    ∙ stop-point (e .args .q) (e .args .points .now) i (length (e .args .points .now)) 10 (omega arith) (c .before .before .before .before .before .before .loop .inv .pass)
-    (first-miss _ 10 _ (sym (c .before .before .before .either .ensures) ∙ c .before .before .if2 .left)
+    sym (length-same (e .args .q) (e .args .points .now) (e .args .hosts) (c .before .before .before .before .before .before .if1 .left)
+    ∙ stop-point (e .args .q) (e .args .points .now) i (length (e .args .points .now)) 10 (omega arith) (c .before .before .before .before .before .loop .inv .pass)
+    (first-miss _ 10 _ (c .before .before .if2 .left)
     ∙ first-hit _ 11 _ (sym (c .before .stands-before .ensures) ∙ c .if3 .taken)))
 
 add-i : tie.Need-add-i Inv-loop μ-loop
@@ -67,14 +64,14 @@ loop-less c = omega arith
 loop-again : tie.Need-loop-again Inv-loop μ-loop
 unfolding pointTestsAt
 loop-again c =
-    let e = c .before .before .before .before .before .before .before .before .before in
-    let i = c .before .before .before .before .before .before .loop .i in
+    let e = c .before .before .before .before .before .before .before .before in
+    let i = c .before .before .before .before .before .loop .i in
     let x = getD (e .args .points .now) i 0 in
     record {
       short = omega arith;
       pass =
-          pass-point (e .args .q) (e .args .points .now) i (c .before .before .before .before .before .before .loop .inv .pass)
-          (first-miss _ 10 _ (sym (c .before .before .before .either .ensures) ∙ c .before .before .if2 .left)
+          pass-point (e .args .q) (e .args .points .now) i (c .before .before .before .before .before .loop .inv .pass)
+          (first-miss _ 10 _ (c .before .before .if2 .left)
           ∙ first-miss _ 11 _ (sym (c .before .stands-before .ensures) ∙ c .if3 .left)
           ∙ first-none);
     }
@@ -95,7 +92,6 @@ point-refusal-spec =
     loop-holds
     mul-x
     shared-slice-read-x
-    either-requires
     returns-2
     stands-before-requires
     returns-3

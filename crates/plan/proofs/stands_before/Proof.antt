@@ -22,14 +22,11 @@ loop-holds : tie.Need-loop-holds Inv-loop μ-loop
 unfolding member
 loop-holds c = record { short = omega arith; is = refl }
 
-mul-either : tie.Need-mul-either Inv-loop μ-loop
-mul-either c = omega arith
+mul-found : tie.Need-mul-found Inv-loop μ-loop
+mul-found c = omega arith
 
-shared-slice-read-either : tie.Need-shared-slice-read-either Inv-loop μ-loop
-shared-slice-read-either c = omega arith
-
-either-requires : tie.Need-either-requires Inv-loop μ-loop
-either-requires c κs = search needs
+shared-slice-read-found : tie.Need-shared-slice-read-found Inv-loop μ-loop
+shared-slice-read-found c = omega arith
 
 add-i : tie.Need-add-i Inv-loop μ-loop
 add-i c = omega arith
@@ -39,22 +36,21 @@ loop-less c = omega arith
 
 loop-again : tie.Need-loop-again Inv-loop μ-loop
 loop-again c =
-    let l = c .before .before .before in
-    let a = l .before .before .args in
+    let l = c .before .before in
+    let a = l .before .args in
     let i = l .loop .i in
     record {
       short = omega arith;
       is =
           rw add-one
-          (c .either .ensures
-          ∙ ap (λ (b : Bool). b || eqb (a .x) (getD (a .points .now) i 0)) (l .loop .inv .is)
+          (ap (λ (b : Bool). b || eqb (a .x) (getD (a .points .now) i 0)) (l .loop .inv .is)
           ∙ sym (member-more (a .points .now) i (a .x) (omega arith)));
     }
 
 returns : tie.Need-returns Inv-loop μ-loop
 returns c =
     let l = c .before in
-    let a = l .before .before .args in
+    let a = l .before .args in
     let all : l .loop .i ≡ a .n = omega arith in
     rw all at (l .loop .inv .is)
 
@@ -65,9 +61,8 @@ stands-before-spec =
     Inv-loop
     μ-loop
     loop-holds
-    mul-either
-    shared-slice-read-either
-    either-requires
+    mul-found
+    shared-slice-read-found
     add-i
     loop-less
     loop-again

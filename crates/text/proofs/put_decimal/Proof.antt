@@ -6,7 +6,8 @@ use native.Mathlib.Omega.{arith}
 use native.Mathlib.Nat.{le-of-eq}
 use lib.ListN.{take, drop, set, length-set}
 use borrow.Author.Needs.{needs}
-use Rattle.text.specs.Decimal.{digit, decimal, put, after}
+use Rattle.text.specs.Decimal.{digit, decimal}
+use Rattle.text.specs.Contracts.{put, after}
 use Rattle.text.proofs.Decimals.{Digits, digits-start, digits-more, digits-room, digits-last}
 use Rattle.text.proofs.put_decimal.Statement.{statement}
 use Rattle.text.proofs.put_decimal.Tie as tie

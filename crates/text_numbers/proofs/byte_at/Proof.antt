@@ -10,7 +10,7 @@ shared-slice-read-result : tie.Need-shared-slice-read-result
 shared-slice-read-result c = omega arith
 
 returns : tie.Need-returns
-returns c = let a = c .before .before .args in same-byte (a .text .now) (a .i) (omega arith)
+returns c = let a = c .before .before .args in same-byte (a .text .now) (a .at) (omega arith)
 
 returns-2 : tie.Need-returns-2
 returns-2 c = sym (List·getD-eq-default (c .before .args .text .now) 10 (c .if1 .left))

@@ -1,6 +1,6 @@
 -- `text_numbers::is_paired` meets its contract.
 use borrow.Author.Tests.{ne-eqb}
-use Rattle.text_numbers.specs.Places.{paired}
+use Rattle.text_numbers.specs.Positions.{paired}
 use Rattle.text_numbers.proofs.is_paired.Statement.{statement}
 use Rattle.text_numbers.proofs.is_paired.Tie as tie
 

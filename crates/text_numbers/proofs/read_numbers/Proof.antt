@@ -9,7 +9,7 @@ use borrow.Author.Tests.{not-true, not-false}
 use borrow.Author.Needs.{needs}
 use Rattle.text_numbers.specs.Numbers.{apart, fits, ends}
 use Rattle.text_numbers.proofs.Steps.{refused-byte, refused-room}
-use Rattle.text_numbers.proofs.Reading.{Read-on, read-none, read-more, read-number, read-fault, read-all}
+use Rattle.text_numbers.proofs.ReadLoop.{Read-on, read-none, read-more, read-number, read-fault, read-all}
 use Rattle.text_numbers.proofs.read_numbers.Statement.{statement}
 use Rattle.text_numbers.proofs.read_numbers.Tie as tie
 
