@@ -26,14 +26,8 @@ version = 1
 
 unfoldable pub header : Header → List ℕ
 header h =
-    bigEndian 3 mark
-    ++ bigEndian 2 version
-    ++ bigEndian 1 (h .kind)
-    ++ bigEndian 1 (h .modulus)
-    ++ bigEndian 1 (h .host)
-    ++ bigEndian 2 (h .rows)
-    ++ bigEndian 2 (h .columns)
-    ++ bigEndian 4 (h .number)
+    bigEndian 3 mark ++ bigEndian 2 version ++ bigEndian 1 (h .kind) ++ bigEndian 1 (h .modulus) ++ bigEndian 1 (h .host)
+    ++ bigEndian 2 (h .rows) ++ bigEndian 2 (h .columns) ++ bigEndian 4 (h .number)
 
 unfoldable pub headerOf : List ℕ → Header
 headerOf message = record {
