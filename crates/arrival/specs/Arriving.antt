@@ -66,8 +66,7 @@ arrived job points heard store message =
 unfoldable pub storeAfter : Job → List ℕ → ℕ → List ℕ → List ℕ → List ℕ
 storeAfter job points heard store message =
     unlessRefused (arrivalTests job points heard (length store) message)
-    (withBlock (answerLength job) store (hostIndex (headerOf message)) (elements message))
-    store
+    (withBlock (answerLength job) store (hostIndex (headerOf message)) (elements message)) store
 
 abbrev pub numberOf : Arrived → ℕ
 numberOf (Taken heard) = 0

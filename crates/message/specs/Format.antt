@@ -43,15 +43,13 @@ unfoldable pub writeTests : Header → List ℕ → ℕ → List Test
 writeTests h xs room =
     fieldTests h
     ++ (differs (length xs) (elementCount h) || differs room (16 + 4 * elementCount h), 13)
-    ∷ (elementTest (h .modulus) xs, 14)
-    ∷ []
+    ∷ (elementTest (h .modulus) xs, 14) ∷ []
 
 unfoldable pub messageTests : List ℕ → List Test
 messageTests message =
     headerTests message
     ++ (differs (length message) (16 + 4 * elementCount (headerOf message)), 20)
-    ∷ (elementTest (headerOf message .modulus) (elements message), 14)
-    ∷ []
+    ∷ (elementTest (headerOf message .modulus) (elements message), 14) ∷ []
 
 unfoldable pub readTests : List ℕ → ℕ → List Test
 readTests message room = (ltb room mostElements, 13) ∷ messageTests message

@@ -49,8 +49,7 @@ fieldTests h =
     ∷ (noModulus (h .modulus), 1)
     ∷ (outside 1 64 (h .host), 12)
     ∷ (outside 1 16384 (h .rows) || outside 1 16384 (h .columns), 2)
-    ∷ (ltb mostElements (elementCount h), 6)
-    ∷ []
+    ∷ (ltb mostElements (elementCount h), 6) ∷ []
 
 unfoldable pub headerTests : List ℕ → List Test
 headerTests message =

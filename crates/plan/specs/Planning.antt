@@ -69,8 +69,7 @@ unfoldable pub rangeTests : Job → List Test
 rangeTests job =
     (sizesOutside (job .t) (job .s) (job .r), 2)
     ∷ (anyOutside 8 (job .m) (job .p) (job .n), 3)
-    ∷ (outside 1 16 (job .xa) || outside 1 16 (job .xb), 4)
-    ∷ []
+    ∷ (outside 1 16 (job .xa) || outside 1 16 (job .xb), 4) ∷ []
 
 -- m does not divide t, or p s, or n r; a block is too large; N is not 1..64, or over q - 1; K is over N
 unfoldable pub fitTests : Job → List Test
@@ -78,8 +77,7 @@ fitTests job =
     (differs (job .t % job .m) 0 || differs (job .s % job .p) 0 || differs (job .r % job .n) 0, 5)
     ∷ (overBlock (blockRows job) (blockInner job) (blockColumns job), 6)
     ∷ (outside 1 64 (job .hosts) || leb (prime job) (job .hosts), 7)
-    ∷ (ltb (job .hosts) (neededOf job), 8)
-    ∷ []
+    ∷ (ltb (job .hosts) (neededOf job), 8) ∷ []
 
 -- x stands in xs
 unfoldable pub member : ℕ → List ℕ → Bool

@@ -30,8 +30,7 @@ testsBySize size n rows inner columns a b length-a length-b room =
     ∷ (sizesOutside rows inner columns, 2)
     ∷ (overBlock rows inner columns, 6)
     ∷ (differs length-a (size (rows * inner)) || differs length-b (size (inner * columns)) || differs room (size (rows * columns)), 13)
-    ∷ (not (allBelow (modulus n) a) || not (allBelow (modulus n) b), 14)
-    ∷ []
+    ∷ (not (allBelow (modulus n) a) || not (allBelow (modulus n) b), 14) ∷ []
 
 unfoldable pub productTests : ℕ → ℕ → ℕ → ℕ → List ℕ → List ℕ → ℕ → List Test
 productTests n rows inner columns a b room = testsBySize (λ k. k) n rows inner columns a b (length a) (length b) room

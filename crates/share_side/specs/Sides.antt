@@ -51,5 +51,4 @@ unfoldable pub matrixTests : ℕ → Side → List ℕ → List ℕ → ℕ → 
 matrixTests q s xs ms room =
     (differs (length xs) (matrixLength s) || differs (length ms) (maskLength s) || differs room (blockLength s), 13)
     ∷ (not (allBelow q xs), 14)
-    ∷ (not (allBelow q ms), 15)
-    ∷ []
+    ∷ (not (allBelow q ms), 15) ∷ []
