@@ -128,7 +128,7 @@ module _ (job : Job) (heard : ℕ) (message : List ℕ) where
   passed read answer =
       let h = headerOf message in
       let r = readable message read in
-      let ours = first-clear (foreign job h) 21 _ answer in
+      let ours = first-clear _ 21 _ answer in
       let host = first-clear _ 11 _ (ours .1) in
       let new = first-clear _ 22 _ (host .1) in
       let size = sizes job h (ours .0) in

@@ -39,8 +39,8 @@ module _ (h : Header) where
         let count = differs (length xs) (elementCount h) in
         let whole = differs room (16 + 4 * elementCount h) in
         let fields = first-append-clear (fieldTests h) _ (fields-numbered h) e in
-        let lengths = first-clear (count || whole) 12 _ (fields .1) in
-        let below = first-clear (elementTest (h .modulus) xs) 13 _ (lengths .1) in
+        let lengths = first-clear _ 12 _ (fields .1) in
+        let below = first-clear _ 13 _ (lengths .1) in
         record {
           fields = fields .0;
           count = equal _ _ (or-left count whole (lengths .0));
@@ -65,8 +65,8 @@ module _ (message : List ℕ) where
   unfolding messageTests
   readable e =
       let head = first-append-clear (headerTests message) _ (header-numbered message) e in
-      let whole = first-clear (differs (length message) (16 + 4 * elementCount (headerOf message))) 19 _ (head .1) in
-      let below = first-clear (elementTest (headerOf message .modulus) (elements message)) 13 _ (whole .1) in
+      let whole = first-clear _ 19 _ (head .1) in
+      let below = first-clear _ 13 _ (whole .1) in
       record {
         head = headed message (head .0);
         whole = equal _ _ (whole .0);

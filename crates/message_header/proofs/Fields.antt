@@ -5,14 +5,13 @@
 --   Headed message    what the tests of a message's header ask
 --   headed, heads     they pass where it holds, and only there
 use mathlib.Core.Path.{_≡_, _∙_}
-use mathlib.Core.Bool.{false, _||_}
+use mathlib.Core.Bool.{false}
 use mathlib.Core.List.{List}
 use Prim.Native.Nat.{ℕ, _^_, _<_, _≤_}
-use lib.Dec.{ltb}
 use lib.ListN.{length}
 use borrow.Author.Tests.{ltb-false}
 use Rattle.algebra.proofs.Tests.{equal, alike}
-use Rattle.refusal.specs.Chain.{first, outside, differs}
+use Rattle.refusal.specs.Chain.{first}
 use Rattle.refusal.proofs.Chains.{first-clear, inside-low, inside-high}
 use Rattle.refusal.proofs.Limits.{within-both}
 use Rattle.field.specs.Modulus.{moduli, modulus, noModulus}
@@ -36,11 +35,11 @@ pub record Ranged (h : Header) : Type 0 where
 pub ranged : (h : Header) → first (fieldTests h) ≡ 0 → Ranged h
 unfolding fieldTests noModulus moduli
 ranged h e =
-    let kind = first-clear (outside 1 3 (h .kind)) 15 _ e in
-    let number = first-clear (noModulus (h .modulus)) 0 _ (kind .1) in
-    let host = first-clear (outside 1 64 (h .host)) 11 _ (number .1) in
-    let size = first-clear (outside 1 16384 (h .rows) || outside 1 16384 (h .columns)) 1 _ (host .1) in
-    let block = first-clear (ltb 4096 (elementCount h)) 5 _ (size .1) in
+    let kind = first-clear _ 15 _ e in
+    let number = first-clear _ 0 _ (kind .1) in
+    let host = first-clear _ 11 _ (number .1) in
+    let size = first-clear _ 1 _ (host .1) in
+    let block = first-clear _ 5 _ (size .1) in
     let sides = within-both 16384 (h .rows) (h .columns) (size .0) in
     record {
       known = number .0;
@@ -64,9 +63,9 @@ module _ (message : List ℕ) where
   pub headed : first (headerTests message) ≡ 0 → Headed message
   unfolding headerTests
   headed e =
-      let long = first-clear (ltb (length message) 16) 16 _ e in
-      let mark = first-clear (differs (numberAt message 0 3) mark) 17 _ (long .1) in
-      let version = first-clear (differs (numberAt message 3 2) version) 18 _ (mark .1) in
+      let long = first-clear _ 16 _ e in
+      let mark = first-clear _ 17 _ (long .1) in
+      let version = first-clear _ 18 _ (mark .1) in
       record {
         long = ltb-false (length message) 16 (long .0);
         mark = equal _ _ (mark .0);
