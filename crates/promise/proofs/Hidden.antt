@@ -25,7 +25,7 @@ use Rattle.share_side.specs.declared.Matrix.the-variants.{A, B}
 use Rattle.share_side.specs.Sides.{side}
 use Rattle.share.specs.Sharing.{shareOf, point, hostShare}
 use Rattle.message.specs.Format.{messageOf}
-use Rattle.promise.specs.Demand3.{Task, SamePublic, Masks, Privacy, publicNumbers, largest, matrix, headerFor, shareHeader, shareMessage}
+use Rattle.promise.specs.Demand3.{Task, SamePublic, Masks, Privacy, publicNumbers, largest, matrix, headerFor, shareHeader, shareFor, shareMessage}
 use Rattle.promise.proofs.Solvable.{Solvable, solvable-powers}
 use Rattle.promise.proofs.Matching.{MasksFor, Matched, matched}
 
@@ -134,7 +134,7 @@ masks-made m x job ms e h =
     record { exact = own .0; below = own .1 }
 
 pub hidden : Privacy
-unfolding shareMessage
+unfolding shareMessage shareFor
 hidden m x y ax ay same g small =
     let job : Job = x .job in
     let jobs = same-numbers x y same in

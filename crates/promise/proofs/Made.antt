@@ -25,7 +25,7 @@ use Rattle.algebra.proofs.Grids.{length-grid, below-grid}
 use Rattle.refusal.specs.Chain.{Test, first, outside}
 use Rattle.field.specs.Modulus.{noModulus}
 use Rattle.refusal.specs.Limits.{anyOutside, sizesOutside, overBlock}
-use Rattle.refusal.proofs.Chains.{first-none, first-miss, outcome-done, inside}
+use Rattle.refusal.proofs.Chains.{first-none, first-miss, outcome-done, unless-done, inside}
 use Rattle.refusal.proofs.Limits.{Within}
 use Rattle.plan.specs.Planning.{prime, parameters, blockRows, blockInner, blockColumns}
 use Rattle.plan.proofs.Facts.{Fits, facts}
@@ -36,17 +36,17 @@ use Rattle.share_side.specs.declared.Matrix.{Matrix}
 use Rattle.share_side.specs.declared.Matrix.the-variants.{A, B}
 use Rattle.share_side.specs.Sides.{side, blockLength, matrixLength, maskLength, matrixTests}
 use Rattle.share.specs.Sharing.{shareOf, hostShare, shareTests, shareAfter}
-use Rattle.product.specs.Product.{productOf, lengthTest, productTests, productAfter}
+use Rattle.product.specs.Product.{productOf, productTests, productAfter}
 use Rattle.message_header.specs.declared.Header.{Header}
 use Rattle.message_bytes.specs.Bytes.{bytesOf, elementsOf}
 use Rattle.message_bytes.proofs.Bytes.{length-bytesOf, elements-of-bytes}
-use Rattle.mukerihe.specs.Host.{byteLengthTest, hostTests, hostProduct, hostAfter}
+use Rattle.mukerihe.specs.Host.{hostTests, hostProduct, hostAfter}
 use Rattle.message_header.proofs.Headers.{length-header}
-use Rattle.message_header.specs.Header.{header, elementCount, kindTest, hostTest, sizeTest, blockTest, fieldTests}
+use Rattle.message_header.specs.Header.{header, elementCount, fieldTests}
 use Rattle.message.specs.Format.{messageOf, payload, elementTest, writeTests, written}
 use Rattle.message.proofs.Fields.{writes}
 use Rattle.message.proofs.Outcomes.{written-done}
-use Rattle.promise.specs.Demand3.{Task, Accepted, Masks, Made, matrix, kindOf, headerFor, shareHeader, answerHeader, shareMessage, trueProduct}
+use Rattle.promise.specs.Demand3.{Task, Accepted, Masks, Made, matrix, kindOf, headerFor, shareHeader, answerHeader, shareFor, shareMessage, trueProduct}
 
 -- a size of a block is one of a matrix
 in-size : {n : ℕ} → Within 4096 n → Within 16384 n
@@ -58,7 +58,7 @@ in-range {most} {n} w = inside 1 most n (w .low) (w .high)
 
 pub fields-pass : (h : Header) → Within 3 (h .kind) → noModulus (h .modulus) ≡ false → Within 64 (h .host) → Within 16384 (h .rows)
     → Within 16384 (h .columns) → elementCount h ≤ 4096 → first (fieldTests h) ≡ 0
-unfolding fieldTests kindTest hostTest sizeTest blockTest
+unfolding fieldTests
 fields-pass h kind known host rows columns count =
     first-miss _ 16 _ (in-range kind)
     ∙ first-miss _ 1 _ known

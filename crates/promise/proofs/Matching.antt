@@ -25,7 +25,7 @@ use Rattle.algebra.proofs.Sums.{sum-≈, sum-add}
 use Rattle.algebra.proofs.Grids.{grid-cong}
 use Rattle.layout.specs.Exponents.{Exponents, term}
 use Rattle.share_side.specs.declared.Side.{Side}
-use Rattle.share_blocks.specs.Encoding.{blockLength, maskLength}
+use Rattle.share_side.specs.Sides.{blockLength, maskLength}
 use Rattle.share.specs.Sharing.{blockEntry, maskEntry, shareEntry, shareOf}
 use Rattle.promise.proofs.Solvable.{Solvable}
 
