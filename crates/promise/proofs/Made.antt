@@ -27,7 +27,7 @@ use Rattle.field.specs.Modulus.{noModulus}
 use Rattle.refusal.specs.Limits.{anyOutside, sizesOutside, overBlock}
 use Rattle.refusal.proofs.Chains.{first-none, first-miss, outcome-done, unless-done, inside}
 use Rattle.refusal.proofs.Limits.{Within}
-use Rattle.plan.specs.Planning.{prime, parameters, blockRows, blockInner, blockColumns}
+use Rattle.plan.specs.Planning.{prime, blockRows, blockInner, blockColumns}
 use Rattle.plan.proofs.Facts.{Fits, facts}
 use Rattle.plan.proofs.Sizes.{Sizes, sizes}
 use Rattle.plan.proofs.Outcomes.{plan-told}
