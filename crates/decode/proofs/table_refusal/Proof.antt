@@ -1,4 +1,4 @@
--- `decode::own_refusal` meets its contract.
+-- `decode::table_refusal` meets its contract.
 use mathlib.Core.Path.{_≡_, sym, ap, ap₂, _∙_}
 use mathlib.Core.Bool.{false, not, _||_}
 use Prim.Native.Nat.{ℕ, _*_, _≤_}
@@ -6,19 +6,19 @@ use native.Mathlib.Nat.{mul-le-mul}
 use native.Mathlib.Omega.{arith}
 use borrow.Author.Needs.{needs}
 use borrow.Author.Tests.{lt-ltb, le-ltb}
-use lib.Dec.{eqb, ltb}
+use lib.Dec.{ltb}
 use lib.Count.{ones}
 use lib.ListN.{length}
 use Rattle.algebra.proofs.Tests.{or-left, equal}
+use Rattle.refusal.specs.Chain.{differs}
 use Rattle.refusal.proofs.Chains.{first-none, first-hit, first-miss}
 use Rattle.plan.specs.declared.Plan.{Plan}
 use Rattle.plan.specs.Planning.{prime, neededOf, planOf}
 use Rattle.arrival_heard.specs.Heard.{someAbove}
 use Rattle.arrival.specs.Arriving.{answerLength, storeLength}
-use Rattle.decode.specs.Decoding.{tableLength, heardBelow}
-use Rattle.decode.specs.Weights.{ownTests}
-use Rattle.decode.proofs.own_refusal.Statement.{statement}
-use Rattle.decode.proofs.own_refusal.Tie as tie
+use Rattle.decode.specs.Decoding.{tableLength, heardBelow, tableTests}
+use Rattle.decode.proofs.table_refusal.Statement.{statement}
+use Rattle.decode.proofs.table_refusal.Tie as tie
 
 -- the sizes of the job's blocks are those of its plan
 size-is : (s : tie.Start) → s .args .plan .rows * s .args .plan .columns ≡ answerLength (s .args .job)
@@ -42,47 +42,44 @@ some-above-requires : tie.Need-some-above-requires
 some-above-requires c κs = search needs
 
 returns : tie.Need-returns
-unfolding ownTests
+unfolding tableTests
 returns c = sym (first-hit _ 21 _ (sym (c .before .some-above .ensures) ∙ c .if1 .taken))
 
-cast-either : tie.Need-cast-either
-cast-either c = search needs
+cast-if2 : tie.Need-cast-if2
+cast-if2 c = search needs
 
-mul-either : tie.Need-mul-either
-mul-either c = let s = c .before .before .before .before .before .before in omega (arith, mul-le-mul (s .pre .hosts) (small s))
+mul-if2 : tie.Need-mul-if2
+mul-if2 c = let s = c .before .before .before .before .before .before in omega (arith, mul-le-mul (s .pre .hosts) (small s))
 
-cast-either-2 : tie.Need-cast-either-2
-cast-either-2 c = search needs
+cast-if2-2 : tie.Need-cast-if2-2
+cast-if2-2 c = search needs
 
-cast-either-3 : tie.Need-cast-either-3
-cast-either-3 c = search needs
+cast-if2-3 : tie.Need-cast-if2-3
+cast-if2-3 c = search needs
 
-mul-either-2 : tie.Need-mul-either-2
-mul-either-2 c = let s = c .before .before .before .before .before .before .before .before in omega (arith, mul-le-mul (s .pre .tall) (s .pre .wide))
-
-either-requires : tie.Need-either-requires
-either-requires c κs = search needs
+mul-if2-2 : tie.Need-mul-if2-2
+mul-if2-2 c = let s = c .before .before .before .before .before .before .before .before in omega (arith, mul-le-mul (s .pre .tall) (s .pre .wide))
 
 -- where the call starts, from each test on
-abbrev start : tie.After-either → tie.Start
-start e = e .before .before .before .before .before .before .before .before .before
+abbrev start : tie.After-struct-known5 → tie.Start
+start e = e .before .before .before .before .before .before .before .before
 
 -- 21 is not told
-below : (e : tie.After-either) → someAbove (start e .args .job .hosts) (start e .args .heard) ≡ false
-below e = let n = e .before .before .before .before in sym (n .before .some-above .ensures) ∙ n .if1 .left
+below : (e : tie.After-struct-known5) → someAbove (start e .args .job .hosts) (start e .args .heard) ≡ false
+below e = let n = e .before .before .before in sym (n .before .some-above .ensures) ∙ n .if1 .left
 
 -- the test of 13
-lengths : (e : tie.After-either)
-    → (not (eqb (length (start e .args .store .now)) (storeLength (start e .args .job))) || not (eqb (start e .args .room) (tableLength (start e .args .job))))
-    ≡ e .either .result
+lengths : (e : tie.After-struct-known5)
+    → (differs (length (start e .args .store .now)) (storeLength (start e .args .job)) || differs (start e .args .room) (tableLength (start e .args .job)))
+    ≡ (differs (length (start e .args .store .now)) (start e .args .job .hosts * (start e .args .plan .rows * start e .args .plan .columns))
+    || differs (start e .args .room) (start e .args .job .t * start e .args .job .r))
 unfolding storeLength tableLength
 lengths e =
     let a = start e .args in
-    ap (λ (n : ℕ). not (eqb (length (a .store .now)) (a .job .hosts * n)) || not (eqb (a .room) (a .job .t * a .job .r))) (sym (size-is (start e)))
-    ∙ sym (e .either .ensures)
+    ap (λ (n : ℕ). differs (length (a .store .now)) (a .job .hosts * n) || differs (a .room) (a .job .t * a .job .r)) (sym (size-is (start e)))
 
 returns-2 : tie.Need-returns-2
-unfolding ownTests
+unfolding tableTests
 returns-2 c = sym (first-miss _ 21 _ (below (c .before)) ∙ first-hit _ 13 _ (lengths (c .before) ∙ c .if2 .taken))
 
 -- K is the plan's
@@ -91,7 +88,7 @@ unfolding planOf
 needed-is s = ap (λ (p : Plan). p .needed) (s .pre .is)
 
 returns-3 : tie.Need-returns-3
-unfolding ownTests
+unfolding tableTests
 returns-3 c =
     let e = c .before .before .before in
     let s = start e in
@@ -111,9 +108,9 @@ heard-below-requires c κs =
     let e = c .before .before .before in
     let s = start e in
     let a = s .args in
-    let stored = not (eqb (length (a .store .now)) (a .job .hosts * (a .plan .rows * a .plan .columns))) in
-    let room = not (eqb (a .room) (a .job .t * a .job .r)) in
-    (small s, s .pre .hosts, equal _ _ (or-left stored room (sym (e .either .ensures) ∙ c .before .before .if2 .left)))
+    let stored = differs (length (a .store .now)) (a .job .hosts * (a .plan .rows * a .plan .columns)) in
+    let room = differs (a .room) (a .job .t * a .job .r) in
+    (small s, s .pre .hosts, equal _ _ (or-left stored room (c .before .before .if2 .left)))
 
 -- the test of 14
 blocks : (c : tie.After-heard-below)
@@ -125,7 +122,7 @@ blocks c =
     ap₂ (λ (q n : ℕ). heardBelow q n (a .heard) (a .store .now) (a .job .hosts)) (sym (s .pre .modulus)) (sym (size-is s)) ∙ sym (c .heard-below .ensures)
 
 returns-4 : tie.Need-returns-4
-unfolding ownTests
+unfolding tableTests
 returns-4 c =
     let n = c .before .before in
     let e = n .before .before .before in
@@ -136,7 +133,7 @@ returns-4 c =
     ∙ first-hit _ 14 _ (ap not (blocks (c .before)) ∙ c .if4 .taken))
 
 returns-5 : tie.Need-returns-5
-unfolding ownTests
+unfolding tableTests
 returns-5 c =
     let n = c .before .before in
     let e = n .before .before .before in
@@ -147,8 +144,8 @@ returns-5 c =
     ∙ first-miss _ 14 _ (ap not (blocks (c .before)) ∙ c .if4 .left)
     ∙ first-none)
 
-pub own-refusal-spec : {M : Type 1} → statement M
-own-refusal-spec =
+pub table-refusal-spec : {M : Type 1} → statement M
+table-refusal-spec =
     tie.close
     (tie.spec
     cast-size
@@ -156,12 +153,11 @@ own-refusal-spec =
     mul-size
     some-above-requires
     returns
-    cast-either
-    mul-either
-    cast-either-2
-    cast-either-3
-    mul-either-2
-    either-requires
+    cast-if2
+    mul-if2
+    cast-if2-2
+    cast-if2-3
+    mul-if2-2
     returns-2
     returns-3
     heard-below-requires
