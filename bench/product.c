@@ -27,7 +27,7 @@ uint32_t plain_product(uint32_t modulus, uint32_t rows, uint32_t inner, uint32_t
                        const uint8_t *b, size_t b_length,
                        uint8_t *out, size_t out_length);
 
-/* One modulus: its number, the same two blocks for all contestants, and their answers. */
+/* One modulus: its number, the same two blocks for all contestants, and their products. */
 struct job {
     uint32_t modulus;
     uint8_t a[BYTES], b[BYTES], out[BYTES];
@@ -89,7 +89,7 @@ static void multiply(struct job *job, int contestant)
         stop("a product was refused");
 }
 
-/* Stops unless the library and plain Rust have FLINT's answer. */
+/* Stops unless the library and plain Rust have FLINT's product. */
 static void check(struct job *job)
 {
     multiply(job, FLINT);
@@ -103,7 +103,7 @@ static void check(struct job *job)
             for (int k = 0; k < 4; k++)
                 element = element << 8 | job->out[4 * i + k];
             if (element != nmod_mat_entry(job->flint_out, i / SIDE, i % SIDE))
-                stop("two contestants have different answers");
+                stop("two contestants have different products");
         }
     }
 }
@@ -125,11 +125,11 @@ static int compare(const void *x, const void *y)
     return (a > b) - (a < b);
 }
 
-/* Prints the contestants' times at one place of their sorted lists, and the library's ratios. */
-static void print(const char *label, double times[CONTESTANTS][ROUNDS], int place)
+/* Prints the contestants' times at one index of their sorted lists, and the library's ratios. */
+static void print(const char *label, double times[CONTESTANTS][ROUNDS], int at)
 {
-    double library = times[LIBRARY][place];
-    double flint = times[FLINT][place], plain = times[PLAIN_RUST][place];
+    double library = times[LIBRARY][at];
+    double flint = times[FLINT][at], plain = times[PLAIN_RUST][at];
     printf("  %s: library %.2f us, FLINT %.2f us, plain Rust %.2f us, "
            "library/FLINT %.3f, library/plain Rust %.3f\n",
            label, library, flint, plain, library / flint, library / plain);

@@ -1,15 +1,22 @@
 #!/usr/bin/env bash
 # Times the 64 x 64 x 64 product: the library, FLINT's nmod_mat_mul and plain Rust, in one run.
 #
-#   bench/product.sh [FOLDER]    FOLDER has libmukerihe.a; without it the library is proved and built
+#   bench/product.sh [--yes] [FOLDER]    FOLDER has libmukerihe.a; without it the library is proved and built
 #
-# It needs gcc and rustc, and installs Debian's libflint-dev where that is missing.
+# It needs gcc, rustc and FLINT. Where FLINT is missing it asks before it installs Debian's libflint-dev; with --yes it does not
+# ask. Where nobody can be asked it says what is needed and ends with 2.
 set -euo pipefail
 cd "$(dirname "$0")/.."
 
+flint=(bash bench/flint.sh)
+if [ "${1:-}" = --yes ]; then
+    flint+=(--yes)
+    shift
+fi
+"${flint[@]}"
+
 library=${1:-target/staticlib}
 [ $# -gt 0 ] || rt staticlib mukerihe
-dpkg -s libflint-dev >/dev/null 2>&1 || apt-get install -y -qq libflint-dev
 
 room=$(mktemp -d)
 trap 'rm -rf "$room"' EXIT

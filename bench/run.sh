@@ -1,11 +1,19 @@
 #!/usr/bin/env bash
 # Makes every figure of docs/BENCHMARKS.md: the product beside FLINT, then every stage beside plain Rust.
 #
-#   bench/run.sh [FOLDER]    FOLDER has libmukerihe.a and libbench_stages.a; without it they are proved and built
+#   bench/run.sh [--yes] [FOLDER]    FOLDER has libmukerihe.a and libbench_stages.a; without it they are proved and built
 #
-# It needs gcc and rustc, and installs Debian's libflint-dev where that is missing.
+# It needs gcc, rustc and FLINT. Where FLINT is missing it asks before it installs Debian's libflint-dev; with --yes it does not
+# ask. Where nobody can be asked it says what is needed and ends with 2.
 set -euo pipefail
 cd "$(dirname "$0")/.."
+
+flint=(bash bench/flint.sh)
+if [ "${1:-}" = --yes ]; then
+    flint+=(--yes)
+    shift
+fi
+"${flint[@]}"
 
 library=${1:-target/staticlib}
 if [ $# -eq 0 ]; then

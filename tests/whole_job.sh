@@ -31,7 +31,7 @@ for text in "$room"/*.in; do
     name=${text##*/}
     name=${name%.in}
     "$program" <"$text" >"$room/printed" || differs "$name" "ends with $?"
-    cmp -s "$room/printed" "$room/$name.out" || differs "$name" "has another answer"
+    cmp -s "$room/printed" "$room/$name.out" || differs "$name" "prints something else"
     texts=$((texts + 1))
 done
 [ "$texts" -ge "$least" ] || { echo "whole_job: $texts texts, at least $least are due" >&2; exit 1; }

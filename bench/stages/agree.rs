@@ -1,4 +1,4 @@
-//! The library and plain Rust give the same answers: random jobs, whole and with a fault put in.
+//! The library and plain Rust give the same outcomes: random jobs, whole and with a fault put in.
 
 use crate::calls::{Calls, Plain};
 use crate::library::Library;
@@ -11,7 +11,7 @@ use plain::share::Matrix;
 const JOBS: u32 = 300;
 const FAULTS: u32 = 20;
 
-/// Runs random jobs by both, and calls with faults; stops where two answers differ.
+/// Runs random jobs by both, and calls with faults; stops where two outcomes differ.
 pub fn check() {
     let mut random = Random::new(1);
     for _ in 0..JOBS {
@@ -61,8 +61,8 @@ fn spoil(random: &mut Random, work: &mut Work, room: &mut Room) {
     match random.index(10) {
         0 => spoil_number(random, &mut work.job),
         1 => {
-            let place = random.index(work.points.len());
-            work.points[place] = [0, q, 1, 2][random.index(4)];
+            let at = random.index(work.points.len());
+            work.points[at] = [0, q, 1, 2][random.index(4)];
         }
         2 => work.points.push(random.within(1, q)),
         3 => room.heard = random.draw() >> random.index(64),
@@ -72,8 +72,8 @@ fn spoil(random: &mut Random, work: &mut Work, room: &mut Room) {
         7 => spoil_list(random, q, &mut room.shares[0]),
         8 => message.truncate(random.index(message.len())),
         _ => {
-            let place = [random.index(16), random.index(message.len())][random.index(2)];
-            message[place] = random.byte() % 8;
+            let at = [random.index(16), random.index(message.len())][random.index(2)];
+            message[at] = random.byte() % 8;
         }
     }
 }
@@ -94,8 +94,8 @@ fn spoil_number(random: &mut Random, job: &mut Job) {
         &mut job.hosts,
         &mut job.number,
     ];
-    let place = random.index(numbers.len());
-    *numbers.into_iter().nth(place).expect("a number") = value;
+    let at = random.index(numbers.len());
+    *numbers.into_iter().nth(at).expect("a number") = value;
 }
 
 /// Sets an element of a list to the prime.
@@ -103,17 +103,17 @@ fn spoil_list(random: &mut Random, q: u32, elements: &mut [u32]) {
     elements[random.index(elements.len())] = q;
 }
 
-/// Makes a call by both on a copy of its output; both have the same answer and output.
+/// Makes a call by both on a copy of its output; both have the same outcome and output.
 fn same<T: PartialEq, O: PartialEq + Clone>(
     name: &str,
     output: &O,
     call: impl Fn(&dyn Calls, &mut O) -> T,
 ) {
     let (mut first, mut second) = (output.clone(), output.clone());
-    let answers = (call(&Library, &mut first), call(&Plain, &mut second));
+    let outcomes = (call(&Library, &mut first), call(&Plain, &mut second));
     assert!(
-        answers.0 == answers.1 && first == second,
-        "{name}: two answers differ"
+        outcomes.0 == outcomes.1 && first == second,
+        "{name}: two outcomes differ"
     );
 }
 

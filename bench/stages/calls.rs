@@ -7,8 +7,8 @@ use plain::plan::{plan, Job};
 use plain::product::{product, product_of_bytes};
 use plain::share::{share, Matrix};
 
-/// What a call answers: done, or the number of the refusal.
-pub type Answer = Result<(), u32>;
+/// The outcome of a call: done, or the number of the refusal.
+pub type Outcome = Result<(), u32>;
 
 /// One who makes the calls.
 pub trait Calls {
@@ -23,7 +23,7 @@ pub trait Calls {
         elements: &[u32],
         masks: &[u32],
         out: &mut [u32],
-    ) -> Answer;
+    ) -> Outcome;
 
     fn product(
         &self,
@@ -32,7 +32,7 @@ pub trait Calls {
         a: &[u32],
         b: &[u32],
         out: &mut [u32],
-    ) -> Answer;
+    ) -> Outcome;
 
     fn product_of_bytes(
         &self,
@@ -41,11 +41,11 @@ pub trait Calls {
         a: &[u8],
         b: &[u8],
         out: &mut [u8],
-    ) -> Answer;
+    ) -> Outcome;
 
-    fn write(&self, header: &Header, elements: &[u32], out: &mut [u8]) -> Answer;
+    fn write(&self, header: &Header, elements: &[u32], out: &mut [u8]) -> Outcome;
 
-    fn read(&self, message: &[u8], out: &mut [u32]) -> Answer;
+    fn read(&self, message: &[u8], out: &mut [u32]) -> Outcome;
 
     fn arrive(
         &self,
@@ -63,7 +63,7 @@ pub trait Calls {
         heard: u64,
         store: &[u32],
         table: &mut [u32],
-    ) -> Answer;
+    ) -> Outcome;
 }
 
 /// The calls in plain Rust.
@@ -83,7 +83,7 @@ impl Calls for Plain {
         elements: &[u32],
         masks: &[u32],
         out: &mut [u32],
-    ) -> Answer {
+    ) -> Outcome {
         share(matrix, job, points, host, elements, masks, out)
     }
 
@@ -94,7 +94,7 @@ impl Calls for Plain {
         a: &[u32],
         b: &[u32],
         out: &mut [u32],
-    ) -> Answer {
+    ) -> Outcome {
         product(modulus, sizes, a, b, out)
     }
 
@@ -105,15 +105,15 @@ impl Calls for Plain {
         a: &[u8],
         b: &[u8],
         out: &mut [u8],
-    ) -> Answer {
+    ) -> Outcome {
         product_of_bytes(modulus, sizes, a, b, out)
     }
 
-    fn write(&self, header: &Header, elements: &[u32], out: &mut [u8]) -> Answer {
+    fn write(&self, header: &Header, elements: &[u32], out: &mut [u8]) -> Outcome {
         write_message(header, elements, out)
     }
 
-    fn read(&self, message: &[u8], out: &mut [u32]) -> Answer {
+    fn read(&self, message: &[u8], out: &mut [u32]) -> Outcome {
         read_message(message, out).map(|_| ())
     }
 
@@ -135,7 +135,7 @@ impl Calls for Plain {
         heard: u64,
         store: &[u32],
         table: &mut [u32],
-    ) -> Answer {
+    ) -> Outcome {
         decode(job, points, heard, store, table)
     }
 }

@@ -1,6 +1,6 @@
 //! The library's calls: the functions of libbench_stages.a and of libmukerihe.a.
 
-use crate::calls::{Answer, Calls};
+use crate::calls::{Calls, Outcome};
 use plain::message::Header;
 use plain::plan::Job;
 use plain::share::Matrix;
@@ -72,7 +72,7 @@ fn numbers(job: &Job) -> Numbers {
 }
 
 /// What a returned number means.
-fn answer(number: u32) -> Answer {
+fn outcome(number: u32) -> Outcome {
     match number {
         0 => Ok(()),
         refusal => Err(refusal),
@@ -87,7 +87,7 @@ impl Calls for Library {
         let mut needed = 0;
         let number =
             unsafe { stages_plan(numbers(job), points.as_ptr(), points.len(), &mut needed) };
-        answer(number).map(|()| needed)
+        outcome(number).map(|()| needed)
     }
 
     fn share(
@@ -99,8 +99,8 @@ impl Calls for Library {
         elements: &[u32],
         masks: &[u32],
         out: &mut [u32],
-    ) -> Answer {
-        answer(unsafe {
+    ) -> Outcome {
+        outcome(unsafe {
             stages_share(
                 matches!(matrix, Matrix::B),
                 numbers(job),
@@ -124,8 +124,8 @@ impl Calls for Library {
         a: &[u32],
         b: &[u32],
         out: &mut [u32],
-    ) -> Answer {
-        answer(unsafe {
+    ) -> Outcome {
+        outcome(unsafe {
             stages_product(
                 modulus,
                 rows,
@@ -148,8 +148,8 @@ impl Calls for Library {
         a: &[u8],
         b: &[u8],
         out: &mut [u8],
-    ) -> Answer {
-        answer(unsafe {
+    ) -> Outcome {
+        outcome(unsafe {
             mukerihe_product(
                 modulus,
                 rows,
@@ -165,7 +165,7 @@ impl Calls for Library {
         })
     }
 
-    fn write(&self, header: &Header, elements: &[u32], out: &mut [u8]) -> Answer {
+    fn write(&self, header: &Header, elements: &[u32], out: &mut [u8]) -> Outcome {
         let fields = Fields([
             header.kind,
             header.modulus,
@@ -174,7 +174,7 @@ impl Calls for Library {
             header.columns,
             header.number,
         ]);
-        answer(unsafe {
+        outcome(unsafe {
             stages_write(
                 fields,
                 elements.as_ptr(),
@@ -185,8 +185,10 @@ impl Calls for Library {
         })
     }
 
-    fn read(&self, message: &[u8], out: &mut [u32]) -> Answer {
-        answer(unsafe { stages_read(message.as_ptr(), message.len(), out.as_mut_ptr(), out.len()) })
+    fn read(&self, message: &[u8], out: &mut [u32]) -> Outcome {
+        outcome(unsafe {
+            stages_read(message.as_ptr(), message.len(), out.as_mut_ptr(), out.len())
+        })
     }
 
     fn arrive(
@@ -210,7 +212,7 @@ impl Calls for Library {
                 message.len(),
             )
         };
-        answer(number).map(|()| after)
+        outcome(number).map(|()| after)
     }
 
     fn decode(
@@ -220,8 +222,8 @@ impl Calls for Library {
         heard: u64,
         store: &[u32],
         table: &mut [u32],
-    ) -> Answer {
-        answer(unsafe {
+    ) -> Outcome {
+        outcome(unsafe {
             stages_decode(
                 numbers(job),
                 points.as_ptr(),

@@ -4,7 +4,7 @@
 //!   calls     the calls of a job, and plain Rust's
 //!   library   the library's calls
 //!   work      a job, and how it goes from the plan to the table
-//!   agree     both give the same answers, refused calls too
+//!   agree     both give the same outcomes, refused calls too
 //!   stage     one stage made by both
 //!   race      two contestants timed by turns
 //!   cases     what is timed
@@ -18,7 +18,7 @@ mod cases;
 mod library;
 mod race;
 #[allow(dead_code)]
-#[path = "../../docs/src/random.rs"]
+#[path = "../../docs/src/sheet/random.rs"]
 mod random;
 mod report;
 mod stage;

@@ -91,7 +91,7 @@ fn print_line(row: &Row, runs: &Runs) {
     );
 }
 
-/// Prints a table of growth: in each place the library's fastest time, and the ratio of the medians.
+/// Prints a table of growth: in each cell the library's fastest time, and the ratio of the medians.
 fn print_growth(table: &Table, cases: &mut impl Iterator<Item = Runs>) {
     println!("\n{}\n", table.title);
     println!("| stage | q | {} |", table.columns.join(" | "));

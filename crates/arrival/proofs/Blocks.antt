@@ -7,26 +7,27 @@ use Prim.Native.Nat.{ℕ, _+_, _*_, _≤_}
 use native.Mathlib.Omega.{arith}
 use lib.ListN.{length, take, drop, length-drop, drop-of-length-le}
 use lib.Seq.{length-take-le, drop-drop}
-use Rattle.message_bytes.specs.Bytes.{elementsOf, common}
+use Rattle.message_bytes.specs.Bytes.{elementsOf}
+use Rattle.message_bytes.specs.Contracts.{common}
 use Rattle.message_header.specs.Header.{headerOf, elementCount}
 use Rattle.message.specs.Format.{elements}
 use Rattle.message.proofs.Parts.{Rest, read-part}
 use Rattle.arrival.specs.Arriving.{withBlock}
 
-module _ (message store : List ℕ) (size place : ℕ) (count : elementCount (headerOf message) ≡ size) (whole : length message ≡ 16 + 4 * size)
-    (fits : place * size + size ≤ length store) where
+module _ (message store : List ℕ) (size index : ℕ) (count : elementCount (headerOf message) ≡ size) (whole : length message ≡ 16 + 4 * size)
+    (fits : index * size + size ≤ length store) where
   -- the block, as it is lent
   abbrev lent : ℕ → List ℕ
-  lent n = take n (drop (place * size) store)
+  lent n = take n (drop (index * size) store)
 
   pub put-part : (n : ℕ) (part : List ℕ) → n ≡ size
       → part ≡ elementsOf (common (Rest message) (lent n)) (Rest message) ++ drop (common (Rest message) (lent n)) (lent n)
-      → take (place * size) store ++ (part ++ drop n (drop (place * size) store)) ≡ withBlock size store place (elements message)
+      → take (index * size) store ++ (part ++ drop n (drop (index * size) store)) ≡ withBlock size store index (elements message)
   unfolding withBlock
   put-part n part all is =
-      let wide : length (lent n) ≡ size = length-take-le n (drop (place * size) store) (omega (arith, length-drop (place * size) store)) ∙ all in
+      let wide : length (lent n) ≡ size = length-take-le n (drop (index * size) store) (omega (arith, length-drop (index * size) store)) ∙ all in
       let full = drop-of-length-le (lent n) {i = elementCount (headerOf message)} (omega (arith, count, wide)) in
       let read : part ≡ elements message
       = is ∙ read-part message (omega (arith, count)) (lent n) (omega (arith, count, wide)) ∙ ap (λ (l : List ℕ). elements message ++ l) full ∙ append-nil (elements message) in
-      ap₂ (λ (l r : List ℕ). take (place * size) store ++ (l ++ r)) read
-      (drop-drop n (place * size) store ∙ ap (λ (k : ℕ). drop (place * size + k) store) all)
+      ap₂ (λ (l r : List ℕ). take (index * size) store ++ (l ++ r)) read
+      (drop-drop n (index * size) store ∙ ap (λ (k : ℕ). drop (index * size + k) store) all)

@@ -1,20 +1,30 @@
 // Arrivals: a host's answer is taken into the store, and its host counts as heard; or it is refused.
 ghost use mathlib.Core.Path.{_≡_};
-ghost use mathlib.Core.List.{List};
-ghost use Prim.Native.Nat.{ℕ, _+_, _*_, _≤_};
+ghost use Prim.Native.Nat.{_+_, _*_, _≤_};
 ghost use lib.ListN.{length};
 ghost use Rattle.refusal.specs.Chain.{first};
-ghost use Rattle.plan.specs.Planning.{blockRows, blockColumns, planTests};
+ghost use Rattle.refusal.specs.Limits.{mostElements};
+ghost use Rattle.plan.specs.Planning.{blockRows, blockColumns};
 ghost use Rattle.message_header.specs.Header.{headerOf, elementCount};
 ghost use Rattle.message.specs.Format.{elements};
-ghost use Rattle.arrival.specs.Arriving.{answerLength, withBlock, foreign, stateTests, ownTests, arrived, storeAfter};
+ghost use Rattle.arrival.specs.Arriving.{
+  answerLength,
+  storeLength,
+  withBlock,
+  foreign,
+  stateTests,
+  answerTests,
+  arrived,
+  storeAfter,
+};
+ghost use Rattle.arrival.specs.Contracts.{received, storeReceived};
+use message::Parsed;
+use message_header::HEADER_BYTES;
 use message_header::Header;
-use message_header::Reading;
 use plan::Job;
 use plan::Planned;
-use refusal::either;
 
-// What an arrival answers: the hosts heard after it, or the number of the refusal.
+// What an arrival returns: the hosts heard after it, or the number of the refusal.
 pub enum Arrived {
     Taken(u64),
     Refused(u32),
@@ -28,14 +38,16 @@ fn foreign_test(job: Job, rows: u32, columns: u32, h: Header) -> bool
     requires { ⌜ rows ≡ blockRows job × columns ≡ blockColumns job ⌝ }
     ensures { λ r. ⌜ r ≡ foreign job h ⌝ }
 {
-    let kind_or_job = either(h.kind != ANSWER, h.number != job.number);
-    let or_modulus = either(kind_or_job, h.modulus != job.modulus);
-    either(either(or_modulus, h.rows != rows), h.columns != columns)
+    (h.kind != ANSWER)
+        | (h.number != job.number)
+        | (h.modulus != job.modulus)
+        | (h.rows != rows)
+        | (h.columns != columns)
 }
 
 // Tests 21 and 13: the hosts heard, and the store, which has room for that many elements. An answer has size elements.
 fn state_refusal(job: Job, size: usize, heard: u64, room: usize) -> u32
-    requires { ⌜ size ≡ answerLength job × size ≤ 4096 × job .hosts ≤ 64 ⌝ }
+    requires { ⌜ size ≡ answerLength job × size ≤ mostElements × job .hosts ≤ 64 ⌝ }
     ensures { λ r. ⌜ r ≡ first (stateTests job heard room) ⌝ }
 {
     if arrival_heard::some_above(job.hosts, heard) {
@@ -47,10 +59,10 @@ fn state_refusal(job: Job, size: usize, heard: u64, room: usize) -> u32
     0
 }
 
-// Tests 22, 12 and 23 of a message with these fields.
-fn own_refusal(job: Job, rows: u32, columns: u32, heard: u64, h: Header) -> u32
+// Tests 22, 12 and 23: a message's fields beside the job and the hosts heard.
+fn answer_refusal(job: Job, rows: u32, columns: u32, heard: u64, h: Header) -> u32
     requires { ⌜ rows ≡ blockRows job × columns ≡ blockColumns job × 1 ≤ h .host ⌝ }
-    ensures { λ r. ⌜ ((message : List ℕ) → h ≡ headerOf message → r ≡ first (ownTests job heard message)) ⌝ }
+    ensures { λ r. ⌜ r ≡ first (answerTests job heard h) ⌝ }
 {
     let foreign = foreign_test(job, rows, columns, h);
     let again = arrival_heard::is_heard(heard, h.host - 1);
@@ -66,20 +78,20 @@ fn own_refusal(job: Job, rows: u32, columns: u32, heard: u64, h: Header) -> u32
     0
 }
 
-// Writes the elements of a message over the block at a place.
-fn put_block(place: usize, size: usize, message: &[u8], store: &mut [u32])
+// Writes the elements of a message over the block of an index.
+fn put_block(index: usize, size: usize, message: &[u8], store: &mut [u32])
     requires { ⌜ elementCount (headerOf (now message)) ≡ size
         × length (now message) ≡ 16 + 4 * size
-        × place * size + size ≤ length (now store) ⌝ }
-    ensures { λ _. ⌜ now (store .exit) ≡ withBlock size (now (store .entry)) place (elements (now (message .entry))) ⌝ }
+        × index * size + size ≤ length (now store) ⌝ }
+    ensures { λ _. ⌜ now (store .exit) ≡ withBlock size (now (store .entry)) index (elements (now (message .entry))) ⌝ }
 {
-    let start = place * size;
+    let start = index * size;
     let end = start + size;
-    message_bytes::read_elements(&message[message_header::HEADER_BYTES..], &mut store[start..end]);
+    message_bytes::read_elements(&message[HEADER_BYTES..], &mut store[start..end]);
 }
 
 // Takes a message when the plan, the hosts heard and the store have passed: its block is written and its host counts as heard,
-// or it is refused.
+// or it is refused. An answer is rows by columns.
 fn take_message(
     job: Job,
     rows: u32,
@@ -88,24 +100,23 @@ fn take_message(
     store: &mut [u32],
     message: &[u8],
 ) -> Arrived
-    requires { ⌜ rows ≡ blockRows job × columns ≡ blockColumns job × rows * columns ≤ 4096 × job .hosts ≤ 64
-        × first (stateTests job heard (length (now store))) ≡ 0 ⌝ }
-    ensures { λ r. ⌜ ((points : List ℕ) → first (planTests job points) ≡ 0
-        → (r ≡ arrived job points heard (now (store .entry)) (now (message .entry)))
-        × (now (store .exit) ≡ storeAfter job points heard (now (store .entry)) (now (message .entry)))) ⌝ }
+    requires { ⌜ rows ≡ blockRows job × columns ≡ blockColumns job × rows * columns ≤ mostElements × job .hosts ≤ 64
+        × length (now store) ≡ storeLength job ⌝ }
+    ensures outcome { λ r. ⌜ r ≡ received job heard (now (message .entry)) ⌝ }
+    ensures kept { λ _. ⌜ now (store .exit) ≡ storeReceived job heard (now (store .entry)) (now (message .entry)) ⌝ }
 {
-    let reading = message::examine(message);
-    match reading {
-        Reading::Refused(number) => Arrived::Refused(number),
-        Reading::Done(h) => {
-            let own = own_refusal(job, rows, columns, heard, h);
-            if own != 0 {
-                return Arrived::Refused(own);
+    let parsed = message::examine(message);
+    match parsed {
+        Parsed::Refused(number) => Arrived::Refused(number),
+        Parsed::Fields(h) => {
+            let refused = answer_refusal(job, rows, columns, heard, h);
+            if refused != 0 {
+                return Arrived::Refused(refused);
             }
-            let place = h.host - 1;
+            let index = h.host - 1;
             let size = (rows * columns) as usize;
-            put_block(place as usize, size, message, store);
-            let bit = 1u64 << place;
+            put_block(index as usize, size, message, store);
+            let bit = 1u64 << index;
             let after = heard + bit;
             Arrived::Taken(after)
         }
@@ -116,7 +127,8 @@ fn take_message(
 // is refused by number, and the store stays as it was.
 pub fn arrive(job: Job, points: &[u32], heard: u64, store: &mut [u32], message: &[u8]) -> Arrived
     ensures outcome { λ r. ⌜ r ≡ arrived job (now (points .entry)) heard (now (store .entry)) (now (message .entry)) ⌝ }
-    ensures kept { λ _. ⌜ now (store .exit) ≡ storeAfter job (now (points .entry)) heard (now (store .entry)) (now (message .entry)) ⌝ }
+    ensures kept { λ _. ⌜ now (store .exit)
+        ≡ storeAfter job (now (points .entry)) heard (now (store .entry)) (now (message .entry)) ⌝ }
 {
     let planned = plan::plan_job(job, points);
     match planned {

@@ -1,9 +1,9 @@
 -- The hosts heard, bit by bit.
 --
---   bit-of                 the bit at a place below 64, as a shifted 1
+--   bit-of                 the bit at an index below 64, as a shifted 1
 --   none-heard             no host is heard in 0
---   not-above, none-above  in a number below 2 ^ n none is heard from place n on
---   with-own, with-other   the bit at a place that was clear is set too, and the others stay
+--   not-above, none-above  in a number below 2 ^ n none is heard from index n on
+--   with-own, with-other   the bit at an index that was clear is set too, and the others stay
 --   with-below             a number that then stays below 2 ^ n
 --   ones-size              the count of ones tells how many hosts are heard
 --   lowest-within          all the hosts heard are among the first n
@@ -22,7 +22,7 @@ use borrow.Author.Tests.{eqb-true, eqb-false, eq-eqb, ne-eqb, lt-leb}
 use Rattle.algebra.specs.Sets.{members, size}
 use Rattle.algebra.proofs.Orders.{le-or-lt}
 use Rattle.algebra.proofs.Tests.{by-test}
-use Rattle.arrival_heard.specs.Heard.{isHeard, withPlace, someAbove, lowest}
+use Rattle.arrival_heard.specs.Heard.{isHeard, withHost, someAbove, lowest}
 
 pub bit-of : (i : ℕ) → i < 64 → 1 * 2 ^ i % 2 ^ 64 ≡ 2 ^ i
 bit-of i l =
@@ -49,30 +49,30 @@ module _ (h i : ℕ) (clear : isHeard h i ≡ false) where
   unfolding isHeard
   even = let ne : h / 2 ^ i % 2 ≡ 1 → ⊥ = eqb-false (h / 2 ^ i % 2) 1 clear in omega arith
 
-  -- the bits from place i on
-  from : withPlace h i / 2 ^ i ≡ h / 2 ^ i + 1
-  unfolding withPlace
+  -- the bits from index i on
+  from : withHost h i / 2 ^ i ≡ h / 2 ^ i + 1
+  unfolding withHost
   from = add-div-right h (pow-pos i)
 
-  pub with-own : isHeard (withPlace h i) i ≡ true
+  pub with-own : isHeard (withHost h i) i ≡ true
   unfolding isHeard
-  with-own = eq-eqb (withPlace h i / 2 ^ i % 2) 1 (omega (arith, even, from))
+  with-own = eq-eqb (withHost h i / 2 ^ i % 2) 1 (omega (arith, even, from))
 
-  -- the bits above place i are those of h
-  above : (j : ℕ) → i < j → withPlace h i / 2 ^ j ≡ h / 2 ^ j
+  -- the bits above index i are those of h
+  above : (j : ℕ) → i < j → withHost h i / 2 ^ j ≡ h / 2 ^ j
   above j l =
-      let next : withPlace h i / 2 ^ i / 2 ^ 1 ≡ h / 2 ^ i / 2 ^ 1 = omega (arith, even, from) in
+      let next : withHost h i / 2 ^ i / 2 ^ 1 ≡ h / 2 ^ i / 2 ^ 1 = omega (arith, even, from) in
       let there : i + 1 + (j - (i + 1)) ≡ j = omega arith in
       sym
       (ap (λ (k : ℕ). h / 2 ^ k) (sym there)
       ∙ sym (shr-shr h (i + 1) (j - (i + 1)))
-      ∙ ap (λ (x : ℕ). x / 2 ^ (j - (i + 1))) (sym (shr-shr h i 1) ∙ sym next ∙ shr-shr (withPlace h i) i 1)
-      ∙ shr-shr (withPlace h i) (i + 1) (j - (i + 1))
-      ∙ ap (λ (k : ℕ). withPlace h i / 2 ^ k) there)
+      ∙ ap (λ (x : ℕ). x / 2 ^ (j - (i + 1))) (sym (shr-shr h i 1) ∙ sym next ∙ shr-shr (withHost h i) i 1)
+      ∙ shr-shr (withHost h i) (i + 1) (j - (i + 1))
+      ∙ ap (λ (k : ℕ). withHost h i / 2 ^ k) there)
 
-  -- the bit at a place below i is that of h
-  below : (j : ℕ) → j < i → withPlace h i / 2 ^ j % 2 ≡ h / 2 ^ j % 2
-  unfolding withPlace
+  -- the bit at an index below i is that of h
+  below : (j : ℕ) → j < i → withHost h i / 2 ^ j % 2 ≡ h / 2 ^ j % 2
+  unfolding withHost
   below j l =
       let there : i ≡ suc (i - j - 1) + j = omega arith in
       let two : 2 ^ i ≡ 2 ^ (i - j - 1) * 2 * 2 ^ j
@@ -81,16 +81,16 @@ module _ (h i : ℕ) (clear : isHeard h i ≡ false) where
       = ap (λ (x : ℕ). (h + x) / 2 ^ j) two ∙ add-mul-div-right h (2 ^ (i - j - 1) * 2) (pow-pos j) in
       omega (arith, moved)
 
-  pub with-other : (j : ℕ) → (i ≡ j → ⊥) → isHeard (withPlace h i) j ≡ isHeard h j
+  pub with-other : (j : ℕ) → (i ≡ j → ⊥) → isHeard (withHost h i) j ≡ isHeard h j
   unfolding isHeard
   with-other j ne =
       ap (λ (x : ℕ). eqb x 1)
       (⊎-elim (λ (l : i ≤ j). ap (λ (x : ℕ). x % 2) (above j (omega arith))) (λ (l : j < i). below j l) (le-or-lt i j))
 
-  pub with-below : (n : ℕ) → h < 2 ^ n → i < n → withPlace h i < 2 ^ n
+  pub with-below : (n : ℕ) → h < 2 ^ n → i < n → withHost h i < 2 ^ n
   with-below n b l =
-      let none : withPlace h i / 2 ^ n ≡ 0 = above n l ∙ div-eq-of-lt b in
-      let one : withPlace h i < 1 * 2 ^ n = div-lt-iff-lt-mul (pow-pos n) .0 (omega arith) in
+      let none : withHost h i / 2 ^ n ≡ 0 = above n l ∙ div-eq-of-lt b in
+      let one : withHost h i < 1 * 2 ^ n = div-lt-iff-lt-mul (pow-pos n) .0 (omega arith) in
       omega arith
 
 -- ---- how many are heard
@@ -118,7 +118,7 @@ size-bit h n =
     (λ (f : isHeard h n ≡ false). omega (arith, size-skip (isHeard h) n f, even h n f))
     (by-test (isHeard h n))
 
--- the ones of the first n places
+-- the ones of the first n indices
 ones-first : (h n : ℕ) → ones (h % 2 ^ n) ≡ size (isHeard h) n
 unfolding ones size members
 ones-first h zero = let none : h % 1 ≡ 0 = omega arith in ap ones none
@@ -136,7 +136,7 @@ ones-size h n b = ap ones (sym (mod-eq-of-lt b)) ∙ ones-first h n
 -- ---- the lowest-numbered
 
 module _ (h : ℕ) where
-  -- from place n on none is heard
+  -- from index n on none is heard
   members-within : (n m : ℕ) → h < 2 ^ n → n ≤ m → members (isHeard h) m ≡ members (isHeard h) n
   unfolding members
   members-within n zero b l = let z : n ≡ 0 = omega arith in rw z

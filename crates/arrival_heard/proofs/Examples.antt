@@ -1,6 +1,6 @@
 -- Values computed from the definitions: an edit of a definition must change one of them.
 --
---   two-lowest   of the hosts 1, 3 and 4, the places of the two lowest-numbered
+--   two-lowest   of the hosts 1, 3 and 4, the indices of the two lowest-numbered
 use mathlib.Core.Path.{_≡_, refl}
 use mathlib.Core.List.{[], _∷_}
 use Rattle.algebra.specs.Sets.{members}

@@ -1,10 +1,10 @@
--- A loop over the places finds the lowest-numbered hosts heard one by one, and writes their places into an output.
+-- A loop over the indices finds the lowest-numbered hosts heard one by one, and writes their indices into an output.
 --
---   Found               the output then has the places of those found so far, and past them what it held
+--   Found               the output then has the indices of those found so far, and past them what it held
 --   found-none          none at first
 --   found-more          one more is heard, and there is room
 --   found-skip, found-full  the next one is not heard, or there is no room
---   found-all           all places
+--   found-all           all indices
 use mathlib.Core.Path.{_≡_, refl, sym, ap, ap₂, _∙_}
 use mathlib.Core.Bool.{true, false}
 use mathlib.Core.Logic.{⊎-elim}
@@ -48,48 +48,48 @@ module _ (k h : ℕ) where
 
 module _ (h : ℕ) (out₀ : List ℕ) where
   abbrev found : ℕ → List ℕ
-  found place = lowest (length out₀) h place
+  found index = lowest (length out₀) h index
 
-  pub record Found (out : List ℕ) (n place : ℕ) : Type 0 where
+  pub record Found (out : List ℕ) (n index : ℕ) : Type 0 where
     pub same : length out ≡ length out₀
-    pub count : n ≡ length (found place)
-    pub is : out ≡ found place ++ drop n out₀
+    pub count : n ≡ length (found index)
+    pub is : out ≡ found index ++ drop n out₀
 
   pub found-none : Found out₀ 0 0
   found-none =
       let none = lowest-none (length out₀) h in
       record { same = refl; count = sym (ap length none); is = sym (ap (λ (xs : List ℕ). xs ++ out₀) none) }
 
-  module _ (out : List ℕ) (n place : ℕ) (f : Found out n place) where
-    pub found-more : isHeard h place ≡ true → n < length out₀ → Found (set out n place) (n + 1) (place + 1)
+  module _ (out : List ℕ) (n index : ℕ) (f : Found out n index) where
+    pub found-more : isHeard h index ≡ true → n < length out₀ → Found (set out n index) (n + 1) (index + 1)
     found-more e l =
-        let more : found (place + 1) ≡ found place ++ (place ∷ [])
-        = ap found (add-one place) ∙ lowest-more (length out₀) h place e (omega (arith, f .count)) in
+        let more : found (index + 1) ≡ found index ++ (index ∷ [])
+        = ap found (add-one index) ∙ lowest-more (length out₀) h index e (omega (arith, f .count)) in
         record {
-          same = length-set out n place ∙ f .same;
-          count = omega (arith, f .count, ap length more, length-append (found place) (place ∷ []));
+          same = length-set out n index ∙ f .same;
+          count = omega (arith, f .count, ap length more, length-append (found index) (index ∷ []));
           is =
-              ap (λ (xs : List ℕ). set xs n place) (f .is ∙ ap (λ (xs : List ℕ). found place ++ xs) (drop-cons out₀ n 0 l))
-              ∙ set-at (found place) _ (drop (suc n) out₀) place n (sym (f .count))
-              ∙ sym (append-snoc (found place) place (drop (suc n) out₀))
+              ap (λ (xs : List ℕ). set xs n index) (f .is ∙ ap (λ (xs : List ℕ). found index ++ xs) (drop-cons out₀ n 0 l))
+              ∙ set-at (found index) _ (drop (suc n) out₀) index n (sym (f .count))
+              ∙ sym (append-snoc (found index) index (drop (suc n) out₀))
               ∙ ap₂ (λ (xs : List ℕ) (m : ℕ). xs ++ drop m out₀) (sym more) (sym (add-one n));
         }
 
     -- no other host is found
-    as-before : found (suc place) ≡ found place → Found out n (place + 1)
+    as-before : found (suc index) ≡ found index → Found out n (index + 1)
     as-before e =
-        let next : found (place + 1) ≡ found place = ap found (add-one place) ∙ e in
+        let next : found (index + 1) ≡ found index = ap found (add-one index) ∙ e in
         record {
           same = f .same;
           count = f .count ∙ ap length (sym next);
           is = f .is ∙ ap (λ (xs : List ℕ). xs ++ drop n out₀) (sym next);
         }
 
-    pub found-skip : isHeard h place ≡ false → Found out n (place + 1)
-    found-skip e = as-before (lowest-skip (length out₀) h place e)
+    pub found-skip : isHeard h index ≡ false → Found out n (index + 1)
+    found-skip e = as-before (lowest-skip (length out₀) h index e)
 
-    pub found-full : length out₀ ≤ n → Found out n (place + 1)
-    found-full l = as-before (lowest-full (length out₀) h place (omega (arith, f .count)))
+    pub found-full : length out₀ ≤ n → Found out n (index + 1)
+    found-full l = as-before (lowest-full (length out₀) h index (omega (arith, f .count)))
 
   pub found-all : (out : List ℕ) (n : ℕ) → Found out n 64 → out ≡ lowest (length out₀) h 64 ++ drop (length (lowest (length out₀) h 64)) out₀
   found-all out n f = f .is ∙ ap (λ (m : ℕ). found 64 ++ drop m out₀) (f .count)

@@ -1,10 +1,10 @@
 -- The hosts heard (01, "Arrivals"): one 64-bit number, with bit i - 1 for host i.
--- A place counts from 0: host i is at place i - 1. How many are heard is the number's count of ones (`lib.Count.ones`).
+-- An index counts from 0: host i has index i - 1. How many are heard is the number's count of ones (`lib.Count.ones`).
 --
---   isHeard heard i     == the bit at place i is set
---   withPlace heard i   == the bit at place i, which was clear, is set too
+--   isHeard heard i     == the bit of index i is set
+--   withHost heard i    == the bit of index i, which was clear, is set too
 --   someAbove n heard   == a bit is set for a host above n: the test of 21
---   lowest k heard n    == the places of the k lowest-numbered hosts heard, of those numbered 1..n
+--   lowest k heard n    == the indices of the k lowest-numbered hosts heard, of those numbered 1..n
 use mathlib.Core.Bool.{Bool}
 use mathlib.Core.List.{List}
 use Prim.Native.Nat.{ℕ, _+_, _/_, _%_, _^_}
@@ -15,8 +15,8 @@ use Rattle.algebra.specs.Sets.{members}
 unfoldable pub isHeard : ℕ → ℕ → Bool
 isHeard heard i = eqb (heard / 2 ^ i % 2) 1
 
-unfoldable pub withPlace : ℕ → ℕ → ℕ
-withPlace heard i = heard + 2 ^ i
+unfoldable pub withHost : ℕ → ℕ → ℕ
+withHost heard i = heard + 2 ^ i
 
 unfoldable pub someAbove : ℕ → ℕ → Bool
 someAbove n heard = leb (2 ^ n) heard

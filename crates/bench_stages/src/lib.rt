@@ -5,17 +5,16 @@ ghost use Rattle.refusal.specs.Chain.{first};
 ghost use Rattle.plan.specs.Planning.{planned, told as Plan·told};
 ghost use Rattle.share.specs.Sharing.{shareTests, shareAfter};
 ghost use Rattle.product.specs.Product.{productTests, productAfter};
-ghost use Rattle.message.specs.Format.{writeTests, written, readAs, readInto};
-ghost use Rattle.message_header.specs.Header.{told as Header·told};
-ghost use Rattle.arrival.specs.Arriving.{arrived, storeAfter, heardAfter, numberOf as Arrival·numberOf};
+ghost use Rattle.message.specs.Format.{writeTests, written, readAs, readInto, told as Format·told};
+ghost use Rattle.arrival.specs.Arriving.{arrived, storeAfter, numberOf, heardAfter};
 ghost use Rattle.decode.specs.Decoding.{decodeTests, tableAfter};
 ghost use Rattle.bench_stages.specs.Stages.{jobOf, headerOf, matrixOf, neededAfter};
 use arrival::Arrived;
+use message::Parsed;
 use message_header::Header;
-use message_header::Reading;
 use plan::Job;
 use plan::Planned;
-use share_side::Matrix;
+use share::Matrix;
 
 // A job's numbers, as plan::Job has them.
 #[repr(C)]
@@ -111,8 +110,10 @@ pub extern "C" fn stages_share(
     masks: &[u32],
     out: &mut [u32],
 ) -> u32
-    ensures number { λ r. ⌜ r ≡ first (shareTests (matrixOf second) (jobOf numbers) (now (points .entry)) host (now (xs .entry)) (now (masks .entry)) (length (now (out .entry)))) ⌝ }
-    ensures block { λ _. ⌜ now (out .exit) ≡ shareAfter (matrixOf second) (jobOf numbers) (now (points .entry)) host (now (xs .entry)) (now (masks .entry)) (now (out .entry)) ⌝ }
+    ensures number { λ r. let elements = now (xs .entry) in let lent = now (masks .entry) in
+        ⌜ r ≡ first (shareTests (matrixOf second) (jobOf numbers) (now (points .entry)) host elements lent (length (now (out .entry)))) ⌝ }
+    ensures block { λ _. let elements = now (xs .entry) in let lent = now (masks .entry) in
+        ⌜ now (out .exit) ≡ shareAfter (matrixOf second) (jobOf numbers) (now (points .entry)) host elements lent (now (out .entry)) ⌝ }
 {
     share::share(
         matrix_of(second),
@@ -136,8 +137,10 @@ pub extern "C" fn stages_product(
     b: &[u32],
     out: &mut [u32],
 ) -> u32
-    ensures number { λ r. ⌜ r ≡ first (productTests modulus rows inner columns (now (a .entry)) (now (b .entry)) (length (now (out .entry)))) ⌝ }
-    ensures block { λ _. ⌜ now (out .exit) ≡ productAfter modulus rows inner columns (now (a .entry)) (now (b .entry)) (now (out .entry)) ⌝ }
+    ensures number { λ r. let left = now (a .entry) in let right = now (b .entry) in
+        ⌜ r ≡ first (productTests modulus rows inner columns left right (length (now (out .entry)))) ⌝ }
+    ensures block { λ _. let left = now (a .entry) in let right = now (b .entry) in
+        ⌜ now (out .exit) ≡ productAfter modulus rows inner columns left right (now (out .entry)) ⌝ }
 {
     product::product(modulus, rows, inner, columns, a, b, out)
 }
@@ -154,13 +157,13 @@ pub extern "C" fn stages_write(fields: Fields, xs: &[u32], out: &mut [u8]) -> u3
 // Reads a message's elements.
 #[no_mangle]
 pub extern "C" fn stages_read(message: &[u8], out: &mut [u32]) -> u32
-    ensures number { λ r. ⌜ r ≡ Header·told (readAs (now (message .entry)) (length (now (out .entry)))) .number ⌝ }
+    ensures number { λ r. ⌜ r ≡ Format·told (readAs (now (message .entry)) (length (now (out .entry)))) .number ⌝ }
     ensures elements { λ _. ⌜ now (out .exit) ≡ readInto (now (message .entry)) (now (out .entry)) ⌝ }
 {
-    let reading = message::read_message(message, out);
-    match reading {
-        Reading::Refused(number) => number,
-        Reading::Done(_) => 0,
+    let parsed = message::read_message(message, out);
+    match parsed {
+        Parsed::Refused(number) => number,
+        Parsed::Fields(_) => 0,
     }
 }
 
@@ -173,10 +176,12 @@ pub extern "C" fn stages_arrive(
     store: &mut [u32],
     message: &[u8],
 ) -> u32
-    ensures number { λ r. ⌜ r ≡ Arrival·numberOf (arrived (jobOf numbers) (now (points .entry)) (now (heard .entry)) (now (store .entry)) (now (message .entry))) ⌝ }
-    ensures heard { λ _. ⌜ now (heard .exit)
-        ≡ heardAfter (now (heard .entry)) (arrived (jobOf numbers) (now (points .entry)) (now (heard .entry)) (now (store .entry)) (now (message .entry))) ⌝ }
-    ensures kept { λ _. ⌜ now (store .exit) ≡ storeAfter (jobOf numbers) (now (points .entry)) (now (heard .entry)) (now (store .entry)) (now (message .entry)) ⌝ }
+    ensures number { λ r. let before = now (heard .entry) in
+        ⌜ r ≡ numberOf (arrived (jobOf numbers) (now (points .entry)) before (now (store .entry)) (now (message .entry))) ⌝ }
+    ensures heard { λ _. let before = now (heard .entry) in let job = jobOf numbers in
+        ⌜ now (heard .exit) ≡ heardAfter before (arrived job (now (points .entry)) before (now (store .entry)) (now (message .entry))) ⌝ }
+    ensures kept { λ _. let before = now (heard .entry) in
+        ⌜ now (store .exit) ≡ storeAfter (jobOf numbers) (now (points .entry)) before (now (store .entry)) (now (message .entry)) ⌝ }
 {
     let arrived = arrival::arrive(job_of(numbers), points, *heard, store, message);
     match arrived {
@@ -197,8 +202,10 @@ pub extern "C" fn stages_decode(
     store: &[u32],
     table: &mut [u32],
 ) -> u32
-    ensures number { λ r. ⌜ r ≡ first (decodeTests (jobOf numbers) (now (points .entry)) heard (now (store .entry)) (length (now (table .entry)))) ⌝ }
-    ensures table { λ _. ⌜ now (table .exit) ≡ tableAfter (jobOf numbers) (now (points .entry)) heard (now (store .entry)) (now (table .entry)) ⌝ }
+    ensures number { λ r. let held = now (store .entry) in
+        ⌜ r ≡ first (decodeTests (jobOf numbers) (now (points .entry)) heard held (length (now (table .entry)))) ⌝ }
+    ensures table { λ _. let held = now (store .entry) in
+        ⌜ now (table .exit) ≡ tableAfter (jobOf numbers) (now (points .entry)) heard held (now (table .entry)) ⌝ }
 {
     decode::decode(job_of(numbers), points, heard, store, table)
 }

@@ -1,6 +1,6 @@
 -- The blocks in the store.
 --
---   heard-none, heard-more, heard-skip   the test of the blocks of the hosts heard, place by place
+--   heard-none, heard-more, heard-skip   the test of the blocks of the hosts heard, host by host
 --   heard-block                          what it tells of one of them
 use mathlib.Core.Path.{_≡_, refl, sym, ap, ap₂, _∙_}
 use mathlib.Core.Bool.{Bool, true, false, not, _&&_, _||_, true≢false}

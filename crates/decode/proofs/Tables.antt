@@ -22,13 +22,14 @@ use Rattle.algebra.proofs.Stacks.{stack-cong, stack-grid}
 use Rattle.algebra.proofs.Modular.{≈-trans, ≈-of-eq, ≈-mod, ≈-mul}
 use Rattle.algebra.proofs.Sums.{sum-≈}
 use Rattle.algebra.proofs.Places.{pointsAt}
+use Rattle.field.specs.Modulus.{prime}
+use Rattle.plan.specs.declared.Plan.{Plan}
 use Rattle.decode_basis.proofs.Weights.{basis-by-division}
-use Rattle.layout.specs.Exponents.{Exponents}
 use Rattle.decode_table.specs.declared.Shape.{Shape}
-use Rattle.decode_table.specs.Pieces.{blockCount, blockLength, pieceCount, pieceBlock, pieceRow, answerTerms, pieceSum, Sized}
-use Rattle.decode_table.proofs.Pieces.{Placed, placed}
+use Rattle.decode_table.specs.Contracts.{blockCount, blockLength, pieceCount, pieceBlock, pieceRow, answerTerms, pieceSum, Sized}
+use Rattle.decode_table.proofs.Pieces.{Located, located}
 use Rattle.decode.specs.Decoding.{blocks}
-use Rattle.decode.specs.Weights.{hostWeight, weightsOf}
+use Rattle.decode.specs.Contracts.{shape, placeOf, hostWeight, decodingWeights}
 
 -- ---- blocks and pieces
 
@@ -59,70 +60,82 @@ blocks-pieces f m rows n columns =
 
 -- ---- weights
 
-module _ (q : ℕ) (e : Exponents) (s : Shape) (xs : List ℕ) where
-  pub weights-below : 0 < q → AllBelow q (weightsOf q e s xs)
-  unfolding weightsOf hostWeight
-  weights-below pos = below-grid _ q (length xs) (blockCount s) (λ c b. mod-lt _ pos)
+module _ (plan : Plan) (xs : List ℕ) where
+  pub weights-below : 0 < prime (plan .modulus) → AllBelow (prime (plan .modulus)) (decodingWeights plan xs)
+  unfolding decodingWeights hostWeight
+  weights-below pos = below-grid _ (prime (plan .modulus)) (length xs) (blockCount (shape plan)) (λ c b. mod-lt _ pos)
 
-  pub length-weights : length (weightsOf q e s xs) ≡ length xs * blockCount s
-  unfolding weightsOf
-  length-weights = length-grid _ (length xs) (blockCount s)
+  pub length-weights : length (decodingWeights plan xs) ≡ length xs * blockCount (shape plan)
+  unfolding decodingWeights
+  length-weights = length-grid _ (length xs) (blockCount (shape plan))
 
-  pub weight-is : AllBelow q xs → Distinct xs → (c b : ℕ) → c < length xs → b < blockCount s
-      → ⟨ q ⟩ entry (blockCount s) (weightsOf q e s xs) c b ≈ getD (basis q (getD xs c 0) xs) (e .place (b / s .across) (b % s .across)) 0
-  unfolding weightsOf hostWeight entry
+  weight-is : AllBelow (prime (plan .modulus)) xs → Distinct xs → (c b : ℕ) → c < length xs → b < blockCount (shape plan)
+      → ⟨ prime (plan .modulus) ⟩ entry (blockCount (shape plan)) (decodingWeights plan xs) c b
+      ≈ getD (basis (prime (plan .modulus)) (getD xs c 0) xs) (placeOf plan (b / shape plan .«grid_columns») (b % shape plan .«grid_columns»)) 0
+  unfolding decodingWeights hostWeight shape entry
   weight-is below distinct c b hc hb =
-      ≈-trans (≈-of-eq (getD-grid _ (length xs) (blockCount s) c b 0 hc hb))
+      let q = prime (plan .modulus) in
+      let n = plan .parameters .n in
+      ≈-trans (≈-of-eq (getD-grid _ (length xs) (blockCount (shape plan)) c b 0 hc hb))
       (≈-trans (≈-mod _)
-      (basis-by-division q xs below distinct c hc (length xs + 1) (length xs) (omega arith) (omega arith) (e .place (b / s .across) (b % s .across))))
+      (basis-by-division q xs below distinct c hc (length xs + 1) (length xs) (omega arith) (omega arith) (placeOf plan (b / n) (b % n))))
 
 -- ---- the table
 
-module _ (q : ℕ) (e : Exponents) (s : Shape) (points places store : List ℕ) (sized : Sized s (length places))
-    (below : AllBelow q (pointsAt points places)) (distinct : Distinct (pointsAt points places)) where
-  xs : List ℕ
-  xs = pointsAt points places
+module _ (plan : Plan) (points indices store : List ℕ) (sized : Sized (shape plan) (length indices))
+    (below : AllBelow (prime (plan .modulus)) (pointsAt points indices)) (distinct : Distinct (pointsAt points indices)) where
+  abbrev q : ℕ
+  q = prime (plan .modulus)
 
-  -- the element at i, v of the answer at place h
+  abbrev s : Shape
+  s = shape plan
+
+  xs : List ℕ
+  xs = pointsAt points indices
+
+  -- the element at i, v of the answer of index h
   answer : ℕ → ℕ → ℕ → ℕ
-  answer i v h = entry (s .columns) store (h * s .rows + i) v
+  answer i v h = entry (s .«block_columns») store (h * s .«block_rows» + i) v
 
   -- the place of the block of piece w
-  placeOf : ℕ → ℕ
-  placeOf w = e .place (w / s .across / s .rows) (w % s .across)
+  pieceAt : ℕ → ℕ
+  pieceAt w = placeOf plan (w / s .«grid_columns» / s .«block_rows») (w % s .«grid_columns»)
 
   -- a term of the sum, and one of the coefficient
-  module _ (w v c : ℕ) (h : w < pieceCount s) (hc : c < length places) where
-    weight-at : ⟨ q ⟩ getD (drop (pieceBlock s w) (weightsOf q e s xs)) (c * blockCount s) 0 ≈ getD (basis q (getD xs c 0) xs) (placeOf w) 0
-    unfolding xs entry placeOf pieceBlock
+  module _ (w v c : ℕ) (h : w < pieceCount s) (hc : c < length indices) where
+    weight-at : ⟨ q ⟩ getD (drop (pieceBlock s w) (decodingWeights plan xs)) (c * blockCount s) 0 ≈ getD (basis q (getD xs c 0) xs) (pieceAt w) 0
+    unfolding xs entry pieceAt pieceBlock
     weight-at =
         let b = pieceBlock s w in
-        let p : Placed s w = placed s (length places) w sized h in
+        let p : Located s w = located s (length indices) w sized h in
+        let ws = decodingWeights plan xs in
         let order : b + c * blockCount s ≡ c * blockCount s + b = omega arith in
-        ≈-trans (≈-of-eq (getD-drop b (weightsOf q e s xs) (c * blockCount s) 0 ∙ ap (λ (k : ℕ). getD (weightsOf q e s xs) k 0) order))
-        (≈-trans (weight-is q e s xs below distinct c b (omega (arith, length-map places (λ h. getD points h 0))) (p .block))
-        (≈-of-eq (ap₂ (λ (k j : ℕ). getD (basis q (getD xs c 0) xs) (e .place k j) 0)
-        (digits-div (w / s .across / s .rows) (p .column)) (digits-mod (w / s .across / s .rows) (p .column)))))
+        let row = w / s .«grid_columns» / s .«block_rows» in
+        ≈-trans (≈-of-eq (getD-drop b ws (c * blockCount s) 0 ∙ ap (λ (k : ℕ). getD ws k 0) order))
+        (≈-trans (weight-is plan xs below distinct c b (omega (arith, length-map indices (λ h. getD points h 0))) (p .block))
+        (≈-of-eq (ap₂ (λ (k j : ℕ). getD (basis q (getD xs c 0) xs) (placeOf plan k j) 0) (digits-div row (p .column)) (digits-mod row (p .column)))))
 
-    answer-at : entry (blockLength s) (drop (pieceRow s w * s .columns) store) (getD places c 0) v ≡ getD (map (answer (pieceRow s w) v) places) c 0
+    answer-at : entry (blockLength s) (drop (pieceRow s w * s .«block_columns») store) (getD indices c 0) v ≡ getD (map (answer (pieceRow s w) v) indices) c 0
     unfolding entry answer blockLength
     answer-at =
         let i = pieceRow s w in
-        let h = getD places c 0 in
-        let order : i * s .columns + (h * (s .rows * s .columns) + v) ≡ (h * s .rows + i) * s .columns + v = omega arith in
-        getD-drop (i * s .columns) store (h * (s .rows * s .columns) + v) 0
+        let h = getD indices c 0 in
+        let start = i * s .«block_columns» in
+        let order : start + (h * (s .«block_rows» * s .«block_columns») + v) ≡ (h * s .«block_rows» + i) * s .«block_columns» + v = omega arith in
+        getD-drop start store (h * (s .«block_rows» * s .«block_columns») + v) 0
         ∙ ap (λ (k : ℕ). getD store k 0) order
-        ∙ sym (getD-map (answer i v) places c hc)
+        ∙ sym (getD-map (answer i v) indices c hc)
 
-  pub piece-is : (w v : ℕ) → w < pieceCount s
-      → pieceSum s places (weightsOf q e s (pointsAt points places)) store w v % q
-      ≡ coefficient q (pointsAt points places) (map (λ h. entry (s .columns) store (h * s .rows + w / s .across % s .rows) v) places)
-      (e .place (w / s .across / s .rows) (w % s .across))
-  unfolding pieceSum answerTerms coefficient xs answer placeOf pieceRow
+  pub piece-is : (w v : ℕ) → w < pieceCount (shape plan)
+      → pieceSum (shape plan) indices (decodingWeights plan (pointsAt points indices)) store w v % prime (plan .modulus)
+      ≡ coefficient (prime (plan .modulus)) (pointsAt points indices)
+      (map (λ h. entry (shape plan .«block_columns») store (h * shape plan .«block_rows» + pieceRow (shape plan) w) v) indices)
+      (placeOf plan (w / shape plan .«grid_columns» / shape plan .«block_rows») (w % shape plan .«grid_columns»))
+  unfolding pieceSum answerTerms coefficient xs answer pieceAt
   piece-is w v h =
-      let ys : List ℕ = map (answer (pieceRow s w) v) places in
-      let long = length-map places (λ h. getD points h 0) in
+      let ys : List ℕ = map (answer (pieceRow s w) v) indices in
+      let long = length-map indices (λ h. getD points h 0) in
       (≈-trans
-      (sum-≈ (length places) _ (λ c. getD ys c 0 * getD (basis q (getD xs c 0) xs) (placeOf w) 0) (λ c hc.
+      (sum-≈ (length indices) _ (λ c. getD ys c 0 * getD (basis q (getD xs c 0) xs) (pieceAt w) 0) (λ c hc.
       ≈-trans (≈-mul (weight-at w v c h hc) (≈-of-eq (answer-at w v c h hc))) (≈-of-eq (mul-comm _ (getD ys c 0)))))
-      (≈-of-eq (ap (λ (n : ℕ). sum n (λ c. getD ys c 0 * getD (basis q (getD xs c 0) xs) (placeOf w) 0)) (sym long)))) .same
+      (≈-of-eq (ap (λ (n : ℕ). sum n (λ c. getD ys c 0 * getD (basis q (getD xs c 0) xs) (pieceAt w) 0)) (sym long)))) .same

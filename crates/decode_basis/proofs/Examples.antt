@@ -5,7 +5,7 @@ use mathlib.Core.Path.{_≡_, refl}
 use mathlib.Core.List.{[], _∷_}
 use Rattle.algebra.specs.Lists.{tab}
 use Rattle.algebra.specs.Polynomials.{ev}
-use Rattle.decode_basis.specs.Basis.{quotient}
+use Rattle.decode_basis.specs.Contracts.{quotient}
 
 divided : quotient 13 2 (1 ∷ 2 ∷ 3 ∷ []) 2 ≡ 8 ∷ 3 ∷ []
 unfolding tab ev quotient

@@ -4,7 +4,7 @@
 --   length-coefficients, getD-coefficients  the first n coefficients have their number, and their elements
 --   product-none, product-more              the product of no roots, and of one more
 --   after                                   what a quotient has at e
---   after-none, after-more                  past the last coefficient, and one place before
+--   after-none, after-more                  past the last coefficient, and one before
 --   scale-none, scale-skip, scale-more      the scale over no points, with x itself more, and with another point more
 use mathlib.Core.Path.{_≡_, sym, ap, _∙_}
 use mathlib.Core.List.{List, [], _∷_}
@@ -25,7 +25,7 @@ use Rattle.algebra.proofs.Division.{getD-addRoot, ev-drop}
 use Rattle.field.specs.declared.Modulus.{Modulus}
 use Rattle.field.specs.Modulus.{prime}
 use Rattle.field.proofs.Moduli.{prime-prime}
-use Rattle.decode_basis.specs.Basis.{coefficients, product, basisScale}
+use Rattle.decode_basis.specs.Contracts.{coefficients, rootProduct, basisScale}
 
 pub residue-below : (m : Modulus) (n : ℕ) → n % prime m < prime m
 residue-below m n = mod-lt n (omega (arith, prime-prime m .above-one))
@@ -41,8 +41,8 @@ unfolding coefficients
 getD-coefficients q cs n e h = getD-tab _ n e 0 h
 
 module _ (q : ℕ) (points : List ℕ) (n : ℕ) where
-  pub product-none : 1 < q → tab (λ e. getD (1 ∷ []) e 0) n ≡ coefficients q (product q (drop (length points) points)) n
-  unfolding coefficients product
+  pub product-none : 1 < q → tab (λ e. getD (1 ∷ []) e 0) n ≡ coefficients q (rootProduct q (drop (length points) points)) n
+  unfolding coefficients rootProduct
   product-none above = rw (drop-length points) (tab-cong _ _ n (λ e l. one e))
     where
       one : (e : ℕ) → getD (1 ∷ []) e 0 ≡ getD (1 ∷ []) e 0 % q
@@ -62,11 +62,11 @@ module _ (q : ℕ) (points : List ℕ) (n : ℕ) where
       before zero l = ≈-refl 0
       before (suc e) l = same e (omega arith)
 
-  pub product-more : (cs : List ℕ) (i : ℕ) → 0 < i → i ≤ length points → cs ≡ coefficients q (product q (drop i points)) n
-      → coefficients q (addRoot (q - getD points (i - 1) 0 % q) cs) (length cs) ≡ coefficients q (product q (drop (i - 1) points)) n
-  unfolding coefficients product
+  pub product-more : (cs : List ℕ) (i : ℕ) → 0 < i → i ≤ length points → cs ≡ coefficients q (rootProduct q (drop i points)) n
+      → coefficients q (addRoot (q - getD points (i - 1) 0 % q) cs) (length cs) ≡ coefficients q (rootProduct q (drop (i - 1) points)) n
+  unfolding coefficients rootProduct
   product-more cs i pos h is =
-      let ds = product q (drop i points) in
+      let ds = rootProduct q (drop i points) in
       let c = q - getD points (i - 1) 0 % q in
       rw (drop-back points i pos h)
       (ap (coefficients q (addRoot c cs)) (ap length is ∙ length-coefficients q ds n)

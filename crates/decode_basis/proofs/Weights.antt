@@ -19,7 +19,7 @@ use Rattle.algebra.proofs.Modular.{≈-trans, ≈-of-eq, ≈-by, ≈-mod, ≈-a
 use Rattle.algebra.proofs.Polynomials.{ev-scale, ev-cong, getD-scale, length-addRoot}
 use Rattle.algebra.proofs.Division.{getD-addRoot, addRoot-swap, ev-after}
 use Rattle.algebra.proofs.Interpolation.{length-basis-own}
-use Rattle.decode_basis.specs.Basis.{coefficients, product, quotient, basisScale}
+use Rattle.decode_basis.specs.Contracts.{coefficients, rootProduct, quotient, basisScale}
 use Rattle.decode_basis.proofs.Steps.{length-coefficients, getD-coefficients}
 
 -- s times each coefficient of cs is ≈ that of ds
@@ -46,12 +46,12 @@ module _ {q : ℕ} where
 module _ (q x : ℕ) (low : x < q) where
   -- over points that are not x, the scale times the product of the roots is the basis polynomial
   scaled-none : (ys : List ℕ) → AllBelow q ys → ((k : ℕ) → k < length ys → x ≡ getD ys k 0 → ⊥)
-      → Scaled q (basisScale q x ys) (product q ys) (basis q x ys)
-  unfolding basisScale product basis
+      → Scaled q (basisScale q x ys) (rootProduct q ys) (basis q x ys)
+  unfolding basisScale rootProduct basis
   scaled-none [] below ne = λ e. ≈-of-eq (omega arith)
   scaled-none (y ∷ ys) below ne =
       let s = basisScale q x ys in
-      let all = product q ys in
+      let all = rootProduct q ys in
       let rest = basis q x ys in
       rw (mod-eq-of-lt low, mod-eq-of-lt (below 0 (omega arith)), ne-eqb x y (ne 0 (omega arith)))
       (scaled-more (inverse q (x + (q - y))) s (addRoot (q - y) all) (addRoot (q - y) rest)
@@ -59,12 +59,12 @@ module _ (q x : ℕ) (low : x < q) where
 
   -- over points of which one is x, it is the basis polynomial times (X - x)
   scaled-once : (ys : List ℕ) → AllBelow q ys → Distinct ys → (i : ℕ) → i < length ys → x ≡ getD ys i 0
-      → Scaled q (basisScale q x ys) (product q ys) (addRoot (q - x) (basis q x ys))
-  unfolding basisScale product basis
+      → Scaled q (basisScale q x ys) (rootProduct q ys) (addRoot (q - x) (basis q x ys))
+  unfolding basisScale rootProduct basis
   scaled-once [] below distinct i h is = absurd (not-suc-le-zero h)
   scaled-once (y ∷ ys) below distinct zero h is =
       let s = basisScale q x ys in
-      let all = product q ys in
+      let all = rootProduct q ys in
       let rest = basis q x ys in
       let away : (k : ℕ) → k < length ys → x ≡ getD ys k 0 → ⊥
       = λ k l e. let z : suc k ≡ 0 = distinct (suc k) 0 (omega arith) (omega arith) (sym e ∙ is) in omega arith in
@@ -73,7 +73,7 @@ module _ (q x : ℕ) (low : x < q) where
       (subst (λ (k : ℕ). Scaled q s (addRoot (q - k) all) (addRoot (q - x) rest)) is apart)
   scaled-once (y ∷ ys) below distinct (suc i) h is =
       let s = basisScale q x ys in
-      let all = product q ys in
+      let all = rootProduct q ys in
       let rest = basis q x ys in
       let k = inverse q (x + (q - y)) in
       let ne : x ≡ y → ⊥ = λ e. let z : suc i ≡ 0 = distinct (suc i) 0 (omega arith) (omega arith) (sym is ∙ e) in omega arith in
@@ -83,10 +83,10 @@ module _ (q x : ℕ) (low : x < q) where
       (λ e. ≈-trans (scaled-more k s (addRoot (q - y) all) (addRoot (q - y) (addRoot (q - x) rest)) (scaled-root (q - y) s all (addRoot (q - x) rest) before) e)
       (≈-of-eq (sym (addRoot-swap (q - x) k (q - y) rest e))))
 
-length-product : (q : ℕ) (ys : List ℕ) → length (product q ys) ≤ suc (length ys)
-unfolding product
+length-product : (q : ℕ) (ys : List ℕ) → length (rootProduct q ys) ≤ suc (length ys)
+unfolding rootProduct
 length-product q [] = omega arith
-length-product q (y ∷ ys) = omega (arith, length-addRoot (q - y % q) (product q ys), length-product q ys)
+length-product q (y ∷ ys) = omega (arith, length-addRoot (q - y % q) (rootProduct q ys), length-product q ys)
 
 -- all coefficients, where there is room for them
 all-coefficients : (q : ℕ) (cs : List ℕ) (n : ℕ) → length cs ≤ n → (e : ℕ) → ⟨ q ⟩ getD (coefficients q cs n) e 0 ≈ getD cs e 0
@@ -111,7 +111,7 @@ module _ (q : ℕ) (xs : List ℕ) (below : AllBelow q xs) (distinct : Distinct 
   x = getD xs i 0
 
   -- what stands after e, at x
-  divided : (cs : List ℕ) → ((e : ℕ) → ⟨ q ⟩ getD cs e 0 ≈ getD (product q xs) e 0)
+  divided : (cs : List ℕ) → ((e : ℕ) → ⟨ q ⟩ getD cs e 0 ≈ getD (rootProduct q xs) e 0)
       → (e : ℕ) → ⟨ q ⟩ basisScale q x xs * ev (drop (suc e) cs) x ≈ getD (basis q x xs) e 0
   unfolding x
   divided cs same e =
@@ -137,11 +137,11 @@ module _ (q : ℕ) (xs : List ℕ) (below : AllBelow q xs) (distinct : Distinct 
           (≈-trans (scaled-once q x low xs below distinct i h refl (suc e + d)) (≈-of-eq (sym (getD-drop (suc e) whole d 0)))))
 
   pub basis-by-division : (n m : ℕ) → length xs < n → length xs ≤ m → (e : ℕ)
-      → ⟨ q ⟩ basisScale q (getD xs i 0) xs * getD (quotient q (getD xs i 0) (coefficients q (product q xs) n) m) e 0
+      → ⟨ q ⟩ basisScale q (getD xs i 0) xs * getD (quotient q (getD xs i 0) (coefficients q (rootProduct q xs) n) m) e 0
       ≈ getD (basis q (getD xs i 0) xs) e 0
   unfolding quotient x
   basis-by-division n m room wide e =
-      let cs = take (suc m) (coefficients q (product q xs) n) in
+      let cs = take (suc m) (coefficients q (rootProduct q xs) n) in
       let f : ℕ → ℕ = λ d. ev (drop (suc d) cs) x % q in
       let s = basisScale q x xs in
       let size = length-product q xs in
@@ -152,5 +152,5 @@ module _ (q : ℕ) (xs : List ℕ) (below : AllBelow q xs) (distinct : Distinct 
       ≈-of-eq (ap (λ (c : ℕ). s * c) none ∙ mul-zero s ∙ sym none′))
       (λ (l : e < m).
       ≈-trans (≈-scale s (≈-trans (≈-of-eq (getD-tab f m e 0 l)) (≈-mod (ev (drop (suc e) cs) x))))
-      (divided cs (first-coefficients q (product q xs) n (suc m) (omega arith) (omega arith)) e))
+      (divided cs (first-coefficients q (rootProduct q xs) n (suc m) (omega arith) (omega arith)) e))
       (le-or-lt m e)

@@ -6,7 +6,7 @@ ghost use lib.ListN.{length, getD};
 ghost use Rattle.algebra.specs.Lists.{tab};
 ghost use Rattle.algebra.specs.Polynomials.{addRoot};
 ghost use Rattle.field.specs.Modulus.{prime};
-ghost use Rattle.decode_basis.specs.Basis.{coefficients, product, quotient, basisScale};
+ghost use Rattle.decode_basis.specs.Contracts.{coefficients, rootProduct, quotient, basisScale};
 use field::Modulus;
 use words::wide_product;
 
@@ -50,7 +50,7 @@ fn times_root(modulus: Modulus, y: u32, cs: &mut [u32])
 // The first coefficients of the product of (X - y) over the points y, as many as have room.
 pub fn from_roots(modulus: Modulus, points: &[u32], out: &mut [u32])
     ensures { λ _. ⌜ now (out .exit)
-        ≡ coefficients (prime modulus) (product (prime modulus) (now (points .entry))) (length (now (out .entry))) ⌝ }
+        ≡ coefficients (prime modulus) (rootProduct (prime modulus) (now (points .entry))) (length (now (out .entry))) ⌝ }
 {
     set_one(out);
     let mut i = points.len();

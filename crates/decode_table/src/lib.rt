@@ -1,192 +1,168 @@
-// Tables put together from answers: each block of the table is a sum of the answers at some places, each times its weight.
+// Tables put together from answers: each block of the table is a sum of some hosts' answers, each times its weight.
 ghost use mathlib.Core.Path.{_≡_};
-ghost use Prim.Native.Nat.{_+_, _*_, _%_, _^_, _<_, _≤_};
-ghost use lib.ListN.{length, getD, drop};
+ghost use Prim.Native.Nat.{_*_, _%_, _^_, _<_, _≤_};
+ghost use lib.ListN.{length, drop};
 ghost use Rattle.algebra.specs.Lists.{tab};
 ghost use Rattle.refusal.specs.Chain.{outside};
+ghost use Rattle.refusal.specs.Limits.{mostElements};
 ghost use Rattle.field.specs.Modulus.{prime};
-ghost use Rattle.sums.specs.Sums.{zeros};
-ghost use Rattle.decode_table.specs.Pieces.{
-  pieceCount,
-  answerTerms,
-  pieceSum,
-  piecesOf,
-  sizesTest,
-  misfit as Pieces·misfit,
-  tableAfter,
-  Ready,
-  There,
-};
+ghost use Rattle.sums.specs.Contracts.{zeros};
+ghost use Rattle.decode_table.specs.Contracts.{pieceCount, answersAdded, pieceSum, piecesOf, sizesTest};
+ghost use Rattle.decode_table.specs.Contracts.{misfit as Contracts·misfit, tableAfter, Weighted, There};
 use field::Modulus;
-use refusal::either;
 use words::least;
 
-// The table: down by across blocks, each rows by columns.
+// The table: grid_rows by grid_columns blocks, each block_rows by block_columns.
 pub struct Shape {
-    pub down: usize,
-    pub across: usize,
-    pub rows: usize,
-    pub columns: usize,
+    pub grid_rows: usize,
+    pub grid_columns: usize,
+    pub block_rows: usize,
+    pub block_columns: usize,
 }
-
-// The most blocks down and across, rows and columns of a block, and places.
-const MOST: usize = 4096;
 
 // A number is not 1 to 4096.
 fn no_size(n: usize) -> bool
-    ensures { λ r. ⌜ r ≡ outside 1 4096 n ⌝ }
+    ensures { λ r. ⌜ r ≡ outside 1 mostElements n ⌝ }
 {
-    either(n < 1, MOST < n)
+    (n < 1) | (refusal::MOST_ELEMENTS < n)
 }
 
-// A size of the table, or the number of places, is not 1 to 4096.
-fn sizes_test(s: Shape, places: usize) -> bool
-    ensures { λ r. ⌜ r ≡ sizesTest s places ⌝ }
+// A size of the table, or the number of indices, is not 1 to 4096.
+fn sizes_test(s: Shape, count: usize) -> bool
+    ensures { λ r. ⌜ r ≡ sizesTest s count ⌝ }
 {
-    either(
-        either(
-            either(no_size(s.down), no_size(s.across)),
-            either(no_size(s.rows), no_size(s.columns)),
-        ),
-        no_size(places),
-    )
+    let grid = no_size(s.grid_rows) | no_size(s.grid_columns);
+    let block = no_size(s.block_rows) | no_size(s.block_columns);
+    grid | block | no_size(count)
 }
 
 // A size is not 1 to 4096, or a buffer is not of exact length.
-fn misfit(s: Shape, places: usize, weights: usize, sums: usize, room: usize) -> bool
-    ensures { λ r. ⌜ r ≡ Pieces·misfit s places weights sums room ⌝ }
+fn misfit(s: Shape, count: usize, weights: usize, sums: usize, room: usize) -> bool
+    ensures { λ r. ⌜ r ≡ Contracts·misfit s count weights sums room ⌝ }
 {
-    if sizes_test(s, places) {
+    if sizes_test(s, count) {
         return true;
     }
-    either(
-        either(weights != places * (s.down * s.across), sums != s.columns),
-        room != s.down * s.rows * s.across * s.columns,
-    )
+    (weights != count * (s.grid_rows * s.grid_columns))
+        | (sums != s.block_columns)
+        | (room != s.grid_rows * s.block_rows * s.grid_columns * s.block_columns)
 }
 
-// The answer at a place, and all that lies behind it.
-fn answer_at(source: &[u32], place: u32, size: usize) -> &[u32]
-    requires { ⌜ size ≤ 16777216 ⌝ }
-    ensures { λ r. ⌜ now r ≡ drop (place * size) (now (source .entry)) ⌝ }
+// The answer of an index, and all that lies behind it.
+fn answer_at(source: &[u32], index: u32, size: usize) -> &[u32]
+    requires { ⌜ size ≤ mostElements * mostElements ⌝ }
+    ensures { λ r. ⌜ now r ≡ drop (index * size) (now (source .entry)) ⌝ }
 {
-    let start = least(place as usize * size, source.len());
+    let start = least(index as usize * size, source.len());
     &source[start..]
 }
 
-// Adds to the sums the rows of the answers at some places, each times its weight, two at a time. The weights lie a step apart,
+// Adds to the sums the rows of the answers of some indices, each times its weight, two at a time. The weights lie a step apart,
 // the answers a size.
 fn add_answers(
     sums: &mut [u64],
     weights: &[u32],
     step: usize,
-    places: &[u32],
+    indices: &[u32],
     source: &[u32],
     size: usize,
 )
-    requires { ⌜ There (now weights) step (now places) size ⌝ }
-    ensures { λ _. ⌜ now (sums .exit)
-        ≡ tab (λ v. (getD (now (sums .entry)) v 0 + answerTerms (now (weights .entry)) step (now (places .entry)) (now (source .entry)) size v) % 2 ^ 64) (length (now (sums .entry))) ⌝ }
+    requires { ⌜ There (now weights) step (now indices) size ⌝ }
+    ensures { λ _. let given = now (sums .entry) in
+        ⌜ now (sums .exit) ≡ answersAdded given (now (weights .entry)) step (now (indices .entry)) (now (source .entry)) size ⌝ }
 {
     let mut c = 0;
-    while c < places.len() {
+    while c < indices.len() {
         let weight = weights[c * step];
-        let answer = answer_at(source, places[c], size);
-        if places.len() - c < 2 {
+        let answer = answer_at(source, indices[c], size);
+        if indices.len() - c < 2 {
             sums_rows::add_row(sums, weight, answer);
             c += 1;
         } else {
             let second = weights[c * step + step];
-            let next = answer_at(source, places[c + 1], size);
+            let next = answer_at(source, indices[c + 1], size);
             sums_rows::add_pair(sums, weight, answer, second, next);
             c += 2;
         }
     }
 }
 
-// A piece of the table, from the weights of its block and the answers' rows that are its own. There is a sum for each element.
-fn table_piece(
-    modulus: Modulus,
+// The sums of a piece of the table, from the weights of its block and the answers' rows that are its own. There is a sum for
+// each element.
+fn piece_sums(
     s: Shape,
     piece: usize,
-    places: &[u32],
+    indices: &[u32],
     weights: &[u32],
     store: &[u32],
     sums: &mut [u64],
-    out: &mut [u32],
 )
-    requires { ⌜ Ready s (now places) (now weights) × piece < pieceCount s × length (now sums) ≡ s .columns × length (now out) ≡ s .columns ⌝ }
-    ensures { λ _. ⌜ now (out .exit)
-        ≡ tab (λ v. pieceSum s (now (places .entry)) (now (weights .entry)) (now (store .entry)) piece v % 2 ^ 64 % prime modulus) (s .columns) ⌝ }
+    requires { ⌜ Weighted s (now indices) (now weights) × piece < pieceCount s ⌝ }
+    ensures { λ _. let sum = pieceSum s (now (indices .entry)) (now (weights .entry)) (now (store .entry)) piece in
+        ⌜ now (sums .exit) ≡ tab (λ v. sum v % 2 ^ 64) (length (now (sums .entry))) ⌝ }
 {
-    let across = s.across;
-    let rows = s.rows;
-    let columns = s.columns;
-    let row = piece / across;
-    let block = row / rows * across + piece % across;
-    let from = least(row % rows * columns, store.len());
+    let grid_columns = s.grid_columns;
+    let block_rows = s.block_rows;
+    let block_columns = s.block_columns;
+    let row = piece / grid_columns;
+    let block = row / block_rows * grid_columns + piece % grid_columns;
+    let offset = least(row % block_rows * block_columns, store.len());
     sums::clear(sums);
     add_answers(
         sums,
         &weights[block..],
-        s.down * across,
-        places,
-        &store[from..],
-        rows * columns,
+        s.grid_rows * grid_columns,
+        indices,
+        &store[offset..],
+        block_rows * block_columns,
     );
-    sums::reduce_row(modulus, sums, out);
 }
 
 // The table of a call that fits, piece by piece.
 fn put_pieces(
     modulus: Modulus,
     s: Shape,
-    places: &[u32],
+    indices: &[u32],
     weights: &[u32],
     store: &[u32],
     sums: &mut [u64],
     table: &mut [u32],
 )
-    requires { ⌜ Ready s (now places) (now weights) × length (now sums) ≡ s .columns × length (now table) ≡ pieceCount s * s .columns ⌝ }
-    ensures { λ _. ⌜ now (table .exit) ≡ piecesOf (prime modulus) s (now (places .entry)) (now (weights .entry)) (now (store .entry)) ⌝ }
+    requires { ⌜ Weighted s (now indices) (now weights)
+        × length (now sums) ≡ s .«block_columns»
+        × length (now table) ≡ pieceCount s * s .«block_columns» ⌝ }
+    ensures { λ _. let answers = now (store .entry) in
+        ⌜ now (table .exit) ≡ piecesOf (prime modulus) s (now (indices .entry)) (now (weights .entry)) answers ⌝ }
 {
-    let columns = s.columns;
-    let count = s.down * s.rows * s.across;
+    let columns = s.block_columns;
+    let count = s.grid_rows * s.block_rows * s.grid_columns;
     let mut piece = 0;
     while piece < count {
         let start = piece * columns;
         let end = start + columns;
-        table_piece(
-            modulus,
-            s,
-            piece,
-            places,
-            weights,
-            store,
-            sums,
-            &mut table[start..end],
-        );
+        piece_sums(s, piece, indices, weights, store, sums);
+        sums::reduce_row(modulus, sums, &mut table[start..end]);
         piece += 1;
     }
 }
 
-// Puts the table together from the answers at some places, by the weights of these. A sum is lent for each column; all are 0
+// Puts the table together from the answers of some indices, by the weights of these. A sum is lent for each column; all are 0
 // then. Where a size is not 1 to 4096 or a length is not the right one, the table stays as it was.
 pub fn table_pieces(
     modulus: Modulus,
     s: Shape,
-    places: &[u32],
+    indices: &[u32],
     weights: &[u32],
     store: &[u32],
     sums: &mut [u64],
     table: &mut [u32],
 )
-    ensures table { λ _. ⌜ now (table .exit)
-        ≡ tableAfter (prime modulus) s (now (places .entry)) (now (weights .entry)) (now (store .entry)) (length (now (sums .entry))) (now (table .entry)) ⌝ }
+    ensures table { λ _. let ws = now (weights .entry) in let answers = now (store .entry) in let lent = length (now (sums .entry)) in
+        ⌜ now (table .exit) ≡ tableAfter (prime modulus) s (now (indices .entry)) ws answers lent (now (table .entry)) ⌝ }
     ensures sums { λ _. ⌜ now (sums .exit) ≡ zeros (now (sums .entry)) ⌝ }
 {
-    if !misfit(s, places.len(), weights.len(), sums.len(), table.len()) {
-        put_pieces(modulus, s, places, weights, store, sums, table);
+    if !misfit(s, indices.len(), weights.len(), sums.len(), table.len()) {
+        put_pieces(modulus, s, indices, weights, store, sums, table);
     }
     sums::clear(sums);
 }

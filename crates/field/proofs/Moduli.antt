@@ -11,7 +11,6 @@
 --   known             and so is a number that names a modulus, with the modulus's prime
 --   prime-prime       each modulus is prime
 --   prime-small       and below 2 ^ 31
---   prime-odd         and odd
 --   sums-fit          4096 products of elements fit 64 bits
 --   none-named        a number that names no modulus is no modulus number
 --   not-named         and what is no modulus number names none
@@ -143,9 +142,6 @@ prime-prime m = known-modulus m .is-prime
 
 pub prime-small : (m : Modulus) → prime m < 2 ^ 31
 prime-small m = known-modulus m .small
-
-pub prime-odd : (m : Modulus) → prime m % 2 ≡ 1
-prime-odd m = known-modulus m .odd
 
 pub sums-fit : (m : Modulus) → 4096 * (prime m * prime m) < 2 ^ 64
 unfolding sums-test

@@ -1,4 +1,4 @@
--- Laws of signed reading: it and its way back, what they answer, exactness, and the words that hold them.
+-- Laws of signed reading: it and its way back, what they return, exactness, and the words that hold them.
 pub mod Readings
 pub mod Outcomes
 pub mod Exactness

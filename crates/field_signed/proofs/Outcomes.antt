@@ -1,6 +1,6 @@
--- What signed reading and its way back answer.
+-- What signed reading and its way back return.
 --
---   signed-told, element-told         an answer on paper: the first number that fits, or else the value
+--   signed-told, element-told         an outcome on paper: the first number that fits, or else the value
 --   signed-number, element-number     so its number is the first that fits
 --   signed-unknown, element-unknown   the number is no modulus number
 --   signed-above, signed-value        v is not below q, or it is

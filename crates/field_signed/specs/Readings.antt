@@ -1,10 +1,10 @@
--- What signed reading and its way back promise (01, "Signed reading" and "What is turned down"), said of their answers on paper.
+-- What signed reading and its way back promise (01, "Signed reading" and "What is turned down"), said of their outcomes on paper.
 -- n is a modulus number and `modulus n` its q.
 --
 --   ThereAndBack n v == element v reads as a value in range, and the way back of that value is v
 --   BackAndThere n z == the way back of the value z is an element, which reads as z
 --   SignedReading    == each element goes there and back, each value in range back and there, and all else is refused
---   ExactReading     == signed reading of the table's element answers with the exact entry of AB, where that is in range
+--   ExactReading     == signed reading of the table's element returns the exact entry of AB, where that is in range
 use mathlib.Core.Path.{_≡_}
 use mathlib.Core.Bool.{true, false}
 use mathlib.Core.List.{[], _∷_}
@@ -13,7 +13,8 @@ use lib.IntN.{ℤ}
 use Rattle.algebra.specs.Sums.{sum}
 use Rattle.refusal.specs.Chain.{first, done, refused}
 use Rattle.field.specs.Modulus.{modulus, noModulus}
-use Rattle.field_signed.specs.Signed.{signed, inRange, element, signedTests, elementTests, signedOutcome, elementOutcome, signedTold, elementTold, Taking, taken, dot, Exact}
+use Rattle.field_signed.specs.Signed.{signed, inRange, element, Taking, taken, dot, Exact}
+use Rattle.field_signed.specs.Signed.{signedTests, elementTests, signedOutcome, elementOutcome, signedTold, elementTold}
 
 pub record ThereAndBack (n v : ℕ) : Type 0 where
   pub reads : signedTold (signedOutcome n v) ≡ done (signed (modulus n) v ∷ [])

@@ -6,9 +6,9 @@
 --   element q z         == the way back, for z in that range: z where it is not below 0, else q + z
 --   signedTests n v     == the refusals of signed reading at modulus number n, in the sheet's order
 --   elementTests n z    == those of the way back
---   signedOutcome n v    == what signed reading answers
---   elementOutcome n z   == what the way back answers
---   signedTold r        == what an answer of signed reading is on paper: its number, 0 where it is a value, and that value
+--   signedOutcome n v   == what signed reading returns
+--   elementOutcome n z  == what the way back returns
+--   signedTold r        == what an outcome of signed reading is on paper: its number, 0 where it is a value, and that value
 --   elementTold r       == the same of the way back
 --   Taking              == how the elements of A and B are taken: as they are, or all by their signed reading
 --   taken q how v       == element v, so taken

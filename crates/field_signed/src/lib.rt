@@ -3,13 +3,13 @@ use field::Named;
 ghost use mathlib.Core.Path.{_≡_};
 ghost use Rattle.field_signed.specs.Signed.{signedOutcome, elementOutcome};
 
-// What signed reading answers.
+// What signed reading returns.
 pub enum Signed {
     Value(i64),
     Refused(u32),
 }
 
-// What the way back answers.
+// What the way back returns.
 pub enum Element {
     Value(u32),
     Refused(u32),

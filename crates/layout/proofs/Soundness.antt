@@ -77,11 +77,13 @@ module _ (g : Parameters) (cut : Cut g) where
         let lead = leading d (g .p - 1) k u _ ((v + 1) * g .p - 1) in-d (omega (arith, in-row v hv, stride)) (omega arith) (omega arith) in
         omega (arith, lead .1, in-row v hv);
     clearAB = λ x y u v hx hy hu hv e. omega (arith, rows u (g .m) d hu, in-row v hv);
-    below = λ k l h j hk hl hh hj.
-        omega (arith, rows k (g .m) d hk, last-row (g .m) d (cut .m), rows j (g .n) (g .p) hj, last-row (g .n) (g .p) (cut .n), stride);
-    belowA = λ x l j hx hl hj. omega (arith, last-row (g .m) d (cut .m), rows j (g .n) (g .p) hj, last-row (g .n) (g .p) (cut .n), stride);
-    belowB = λ k l y hk hl hy. omega (arith, rows k (g .m) d hk, last-row (g .m) d (cut .m), last-row (g .n) (g .p) (cut .n), stride);
-    belowAB = λ x y hx hy. omega (arith, last-row (g .m) d (cut .m), stride);
+    bounded = record {
+      below = λ k l h j hk hl hh hj.
+          omega (arith, rows k (g .m) d hk, last-row (g .m) d (cut .m), rows j (g .n) (g .p) hj, last-row (g .n) (g .p) (cut .n), stride);
+      belowA = λ x l j hx hl hj. omega (arith, last-row (g .m) d (cut .m), rows j (g .n) (g .p) hj, last-row (g .n) (g .p) (cut .n), stride);
+      belowB = λ k l y hk hl hy. omega (arith, rows k (g .m) d hk, last-row (g .m) d (cut .m), last-row (g .n) (g .p) (cut .n), stride);
+      belowAB = λ x y hx hy. omega (arith, last-row (g .m) d (cut .m), stride);
+    };
   }
 
   -- the last masks' sum
@@ -118,10 +120,12 @@ module _ (g : Parameters) (cut : Cut g) where
         clearA = λ x l j u v hx hl hj hu hv e. s .clearB j (p - 1 - l) x v u hj (omega arith) hx hv hu (omega arith);
         clearB = λ k l y u v hk hl hy hu hv e. s .clearA y (p - 1 - l) k v u hy (omega arith) hk hv hu (omega arith);
         clearAB = λ x y u v hx hy hu hv e. s .clearAB y x v u hy hx hv hu (omega arith);
-        below = λ k l h j hk hl hh hj. omega (arith, s .below j (p - 1 - h) (p - 1 - l) k hj (omega arith) (omega arith) hk);
-        belowA = λ x l j hx hl hj. omega (arith, s .belowB j (p - 1 - l) x hj (omega arith) hx);
-        belowB = λ k l y hk hl hy. omega (arith, s .belowA y (p - 1 - l) k hy (omega arith) hk);
-        belowAB = λ x y hx hy. omega (arith, s .belowAB y x hy hx);
+        bounded = record {
+          below = λ k l h j hk hl hh hj. omega (arith, s .bounded .below j (p - 1 - h) (p - 1 - l) k hj (omega arith) (omega arith) hk);
+          belowA = λ x l j hx hl hj. omega (arith, s .bounded .belowB j (p - 1 - l) x hj (omega arith) hx);
+          belowB = λ k l y hk hl hy. omega (arith, s .bounded .belowA y (p - 1 - l) k hy (omega arith) hk);
+          belowAB = λ x y hx hy. omega (arith, s .bounded .belowAB y x hy hx);
+        };
       }
 
 pub sound : (layout : Layout) (g : Parameters) → Cut g → Sound g (exponents layout g)
@@ -131,5 +135,5 @@ sound Second = sound2
 
 pub threshold : (layout : Layout) (g : Parameters) → Cut g → 1 ≤ g .xa → 1 ≤ g .xb → Threshold g (exponents layout g)
 unfolding exponents layout1 layout2 strideD strideE over
-threshold First g cut ha hb = record { sound = sound1 g cut; reached = reached1 g cut ha hb }
-threshold Second g cut ha hb = record { sound = sound2 g cut; reached = omega (arith, reached1 (over g) (cut-over g cut) hb ha) }
+threshold First g cut ha hb = record { bounded = sound1 g cut .bounded; reached = reached1 g cut ha hb }
+threshold Second g cut ha hb = record { bounded = sound2 g cut .bounded; reached = omega (arith, reached1 (over g) (cut-over g cut) hb ha) }

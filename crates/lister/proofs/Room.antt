@@ -123,8 +123,8 @@ module _ (job : Job) (fits : Fits job) where
         arith,
         side-length (ascii "A") (grid (term e BlocksA) (job .m) (job .p)) (tab (term e MasksA 0) (job .xa)),
         grid-room (term e BlocksA) (job .m) (job .p) (fits .ranged .m .high) (fits .ranged .p .high)
-            (λ i j hi hj. omega (arith, s .below i j j 0 hi hj hj (cut .n), few)),
-        row-length (term e MasksA 0) (job .xa) (λ x hx. omega (arith, s .belowA x 0 0 hx (cut .p) (cut .n), few)),
+            (λ i j hi hj. omega (arith, s .bounded .below i j j 0 hi hj hj (cut .n), few)),
+        row-length (term e MasksA 0) (job .xa) (λ x hx. omega (arith, s .bounded .belowA x 0 0 hx (cut .p) (cut .n), few)),
         fits .ranged .xa .high,
       )
 
@@ -135,8 +135,8 @@ module _ (job : Job) (fits : Fits job) where
         arith,
         side-length (ascii "B") (grid (term e BlocksB) (job .p) (job .n)) (tab (term e MasksB 0) (job .xb)),
         grid-room (term e BlocksB) (job .p) (job .n) (fits .ranged .p .high) (fits .ranged .n .high)
-            (λ l j hl hj. omega (arith, s .below 0 l l j (cut .m) hl hl hj, few)),
-        row-length (term e MasksB 0) (job .xb) (λ y hy. omega (arith, s .belowB 0 0 y (cut .m) (cut .p) hy, few)),
+            (λ l j hl hj. omega (arith, s .bounded .below 0 l l j (cut .m) hl hl hj, few)),
+        row-length (term e MasksB 0) (job .xb) (λ y hy. omega (arith, s .bounded .belowB 0 0 y (cut .m) (cut .p) hy, few)),
         fits .ranged .xb .high,
       )
 
@@ -147,7 +147,7 @@ module _ (job : Job) (fits : Fits job) where
         arith,
         line-length (ascii "C") (grid (term e Places) (job .m) (job .n)),
         grid-room (term e Places) (job .m) (job .n) (fits .ranged .m .high) (fits .ranged .n .high)
-            (λ u v hu hv. omega (arith, s .meet u 0 v hu (cut .p) hv, s .below u 0 0 v hu (cut .p) (cut .p) hv, few)),
+            (λ u v hu hv. omega (arith, s .meet u 0 v hu (cut .p) hv, s .bounded .below u 0 0 v hu (cut .p) (cut .p) hv, few)),
       )
 
   number-room : length (numberLines (job .hosts) (planOf job)) ≤ 100

@@ -5,30 +5,25 @@
 --   Readable message  what the tests of a message ask
 --   readable, reads   they pass where it holds, and only there
 --   small             elements that pass are 32-bit values
-use mathlib.Core.Path.{_≡_, ap, ap₂}
-use mathlib.Core.Bool.{false, not, _||_}
+use mathlib.Core.Path.{_≡_, ap₂, _∙_}
+use mathlib.Core.Bool.{false, _||_}
 use mathlib.Core.List.{List}
 use Prim.Native.Nat.{ℕ, _+_, _*_, _^_}
 use native.Mathlib.Omega.{arith}
-use lib.Dec.{eqb}
 use lib.ListN.{length}
-use borrow.Author.Tests.{eq-eqb, not-false}
+use borrow.Author.Tests.{not-false}
 use Rattle.algebra.specs.Lists.{AllBelow, allBelow}
 use Rattle.algebra.proofs.Lists.{all-below-test}
-use Rattle.algebra.proofs.Tests.{or-left, or-right, equal}
-use Rattle.refusal.specs.Chain.{first}
-use Rattle.refusal.proofs.Chains.{first-clear, first-append-clear}
+use Rattle.algebra.proofs.Tests.{or-left, or-right, equal, alike}
+use Rattle.refusal.specs.Chain.{first, differs}
+use Rattle.refusal.proofs.Chains.{first-none, first-miss, first-clear, first-append-clear}
 use Rattle.field.specs.Modulus.{modulus}
 use Rattle.message_header.specs.declared.Header.{Header}
 use Rattle.message_header.specs.Header.{headerOf, elementCount, fieldTests, headerTests}
 use Rattle.message_header.proofs.Tests.{fields-numbered, header-numbered}
 use Rattle.message_header.proofs.Fields.{Ranged, Headed, headed, heads}
-use Rattle.message.specs.Format.{elements, elementTest, writeLengthTest, writeTests, lengthTest, messageTests}
-use Rattle.message.proofs.Tests.{write-none, told-none}
-
--- the test of two numbers that are equal
-alike : (a b : ℕ) → a ≡ b → not (eqb a b) ≡ false
-alike a b e = ap not (eq-eqb a b e)
+use Rattle.message.specs.Format.{elements, elementTest, writeTests, messageTests}
+use Rattle.message.proofs.Tests.{past-fields, past-header}
 
 module _ (h : Header) where
   pub record Writable (xs : List ℕ) (size : ℕ) : Type 0 where
@@ -39,13 +34,13 @@ module _ (h : Header) where
 
   module _ (xs : List ℕ) (room : ℕ) where
     pub writable : first (writeTests h xs room) ≡ 0 → Writable xs room
-    unfolding writeTests writeLengthTest
+    unfolding writeTests
     writable e =
+        let count = differs (length xs) (elementCount h) in
+        let whole = differs room (16 + 4 * elementCount h) in
         let fields = first-append-clear (fieldTests h) _ (fields-numbered h) e in
-        let lengths = first-clear (writeLengthTest h (length xs) room) 12 _ (fields .1) in
-        let below = first-clear (elementTest (h .modulus) xs) 13 _ (lengths .1) in
-        let count = not (eqb (length xs) (elementCount h)) in
-        let whole = not (eqb room (16 + 4 * elementCount h)) in
+        let lengths = first-clear _ 12 _ (fields .1) in
+        let below = first-clear _ 13 _ (lengths .1) in
         record {
           fields = fields .0;
           count = equal _ _ (or-left count whole (lengths .0));
@@ -54,10 +49,11 @@ module _ (h : Header) where
         }
 
     pub writes : Writable xs room → first (writeTests h xs room) ≡ 0
-    unfolding writeLengthTest
     writes w =
-        write-none h xs room (w .fields)
-        (ap₂ _||_ (alike (length xs) (elementCount h) (w .count)) (alike room (16 + 4 * elementCount h) (w .room))) (w .below)
+        past-fields h xs room (w .fields)
+        ∙ first-miss _ 13 _ (ap₂ _||_ (alike (length xs) (elementCount h) (w .count)) (alike room (16 + 4 * elementCount h) (w .room)))
+        ∙ first-miss _ 14 _ (w .below)
+        ∙ first-none
 
 pub record Readable (message : List ℕ) : Type 0 where
   pub head : Headed message
@@ -66,11 +62,11 @@ pub record Readable (message : List ℕ) : Type 0 where
 
 module _ (message : List ℕ) where
   pub readable : first (messageTests message) ≡ 0 → Readable message
-  unfolding messageTests lengthTest
+  unfolding messageTests
   readable e =
       let head = first-append-clear (headerTests message) _ (header-numbered message) e in
-      let whole = first-clear (lengthTest message) 19 _ (head .1) in
-      let below = first-clear (elementTest (headerOf message .modulus) (elements message)) 13 _ (whole .1) in
+      let whole = first-clear _ 19 _ (head .1) in
+      let below = first-clear _ 13 _ (whole .1) in
       record {
         head = headed message (head .0);
         whole = equal _ _ (whole .0);
@@ -78,8 +74,11 @@ module _ (message : List ℕ) where
       }
 
   pub reads : Readable message → first (messageTests message) ≡ 0
-  unfolding lengthTest
-  reads r = told-none message (heads message (r .head)) (alike _ _ (r .whole)) (r .below)
+  reads r =
+      past-header message (heads message (r .head))
+      ∙ first-miss _ 20 _ (alike _ _ (r .whole))
+      ∙ first-miss _ 14 _ (r .below)
+      ∙ first-none
 
 pub small : (h : Header) (xs : List ℕ) → Ranged h → elementTest (h .modulus) xs ≡ false → AllBelow (2 ^ 32) xs
 unfolding elementTest

@@ -1,19 +1,19 @@
 -- The elements part of a message, as it is handed on.
 --
---   Rest bytes            the bytes from place 16 on
+--   Rest bytes            the bytes from offset 16 on
 --   elements-part         the elements that this part of a whole message holds
 --   read-part             what reading this part leaves in an output
+--   copied-header         what copying a header to the front of an output leaves
 --   written-part          what writing a header and then this part leaves
 use mathlib.Core.Path.{_≡_, ap, ap₂, _∙_}
 use mathlib.Core.List.{List, _++_, append-nil}
-use Prim.Native.Nat.{ℕ, _+_, _*_, _/_, _-_, _≤_}
+use Prim.Native.Nat.{ℕ, _+_, _*_, _/_, _-_, _≤_, min}
 use native.Mathlib.Omega.{arith}
-use lib.ListN.{length, take, drop, length-drop, drop-of-length-le}
-use lib.Seq.{take-length, take-at}
-use Rattle.text.specs.Decimal.{put}
-use Rattle.text.proofs.Puts.{put-fits, length-put}
+use lib.ListN.{length, take, drop, length-append, length-drop, drop-of-length-le}
+use lib.Seq.{take-all, take-at}
 use Rattle.algebra.proofs.Lists.{rest-is}
-use Rattle.message_bytes.specs.Bytes.{bytesOf, elementsOf, common}
+use Rattle.message_bytes.specs.Bytes.{bytesOf, elementsOf}
+use Rattle.message_bytes.specs.Contracts.{common}
 use Rattle.message_bytes.proofs.Words.{written-exact}
 use Rattle.message_header.specs.declared.Header.{Header}
 use Rattle.message_header.specs.Header.{header, headerOf, elementCount}
@@ -44,17 +44,16 @@ module _ (message : List ℕ) (whole : length message ≡ 16 + 4 * elementCount 
       let count : common (Rest message) out ≡ elementCount (headerOf message) = omega arith in
       ap₂ (λ (n : ℕ) (p : List ℕ). elementsOf n p ++ drop n out) count (rest-is message 16)
 
-module _ (h : Header) (xs out out′ part : List ℕ) (whole : length out ≡ 16 + 4 * length xs) (head : out′ ≡ put out 0 (header h))
+pub copied-header : (h : Header) {bytes : List ℕ} (out : List ℕ) → bytes ≡ header h → 16 ≤ length out
+    → take (min (length bytes) (length out)) bytes ++ drop (min (length bytes) (length out)) out ≡ header h ++ drop 16 out
+copied-header h out e long =
+    let all : min (length (header h)) (length out) ≡ 16 = omega (arith, length-header h) in
+    rw (e, all, take-all 16 (header h) (omega (arith, length-header h)))
+
+module _ (h : Header) (xs out out′ part : List ℕ) (whole : length out ≡ 16 + 4 * length xs) (head : out′ ≡ header h ++ drop 16 out)
     (body : part ≡ bytesOf (take (common (Rest out′) xs) xs) ++ drop (common (Rest out′) xs * 4) (Rest out′)) where
   same-length : length out′ ≡ 16 + 4 * length xs
-  same-length = ap length head ∙ length-put out 0 (header h) ∙ whole
-
-  front : take 16 out′ ≡ header h
-  front =
-      let put-front = put-fits out 0 (header h) (omega (arith, length-header h)) in
-      let whole-header = ap (λ (ys : List ℕ). ys ++ drop (0 + length (header h)) out) (take-length (header h)) in
-      ap (take 16) (head ∙ put-front ∙ whole-header)
-      ∙ take-at (header h) (drop (0 + length (header h)) out) 16 (length-header h)
+  same-length = ap length head ∙ omega (arith, length-append (header h) (drop 16 out), length-header h, length-drop 16 out)
 
   body-is : part ≡ bytesOf xs
   body-is = body ∙ written-exact (Rest out′) xs (length-rest out′ (length xs) same-length)
@@ -62,6 +61,7 @@ module _ (h : Header) (xs out out′ part : List ℕ) (whole : length out ≡ 16
   pub written-part : take 16 out′ ++ (part ++ drop (length out′ - 16) (drop 16 out′)) ≡ messageOf h xs
   unfolding messageOf
   written-part =
+      let front = ap (take 16) head ∙ take-at (header h) (drop 16 out) 16 (length-header h) in
       let end = drop-of-length-le (drop 16 out′) {i = length out′ - 16} (omega (arith, length-drop 16 out′)) in
       ap₂ (λ (ys zs : List ℕ). ys ++ (zs ++ drop (length out′ - 16) (drop 16 out′))) front body-is
       ∙ ap (λ (ys : List ℕ). header h ++ (bytesOf xs ++ ys)) end

@@ -17,19 +17,19 @@ use Rattle.algebra.specs.Lists.{AllBelow}
 use Rattle.algebra.proofs.Lists.{below-append}
 use Rattle.algebra.proofs.Orders.{le-or-lt}
 use Rattle.refusal.specs.Chain.{first, done}
+use Rattle.refusal.proofs.Chains.{outcome-done}
 use Rattle.message_bytes.specs.Bytes.{bytesOf, elementsOf}
 use Rattle.message_bytes.proofs.Bytes.{length-bytesOf, bytesOf-bytes, elements-of-bytes, bytes-of-elements}
 use Rattle.message_bytes.proofs.Words.{length-elements}
 use Rattle.message_header.specs.declared.Header.{Header}
-use Rattle.message_header.specs.declared.Reading.the-variants.{Done, Refused}
-use Rattle.message_header.specs.Header.{header, headerOf, elementCount, fieldTests, fields, told}
+use Rattle.message_header.specs.Header.{header, headerOf, elementCount, fieldTests, fields}
 use Rattle.message_header.proofs.Fields.{Ranged, ranged}
 use Rattle.message_header.proofs.Headers.{length-header, header-bytes, mark-header, version-header, headerOf-header, header-headerOf}
-use Rattle.message_header.proofs.Outcomes.{done-by, done-told, told-done}
-use Rattle.message.specs.Format.{messageOf, payload, elements, elementTest, writeTests, messageTests, written, examined, readAs, readInto}
+use Rattle.message.specs.declared.Parsed.the-variants.{Fields, Refused}
+use Rattle.message.specs.Format.{messageOf, payload, elements, elementTest, writeTests, messageTests, written, examined, readAs, readInto, told}
 use Rattle.message.specs.RoundTrips.{ReadsBack, IsWritten, RoundTrips}
 use Rattle.message.proofs.Fields.{Writable, writable, writes, Readable, readable, reads, small}
-use Rattle.message.proofs.Outcomes.{written-done, read-short, read-long, read-done}
+use Rattle.message.proofs.Outcomes.{fields-told, told-fields, written-done, read-short, read-long, read-done}
 
 module _ (h : Header) (xs : List ℕ) (room : ℕ) (number : h .number < 2 ^ 32) (accepted : first (writeTests h xs room) ≡ 0) where
   w : Writable h xs room
@@ -113,7 +113,8 @@ module _ (h : Header) (xs out store : List ℕ) (number : h .number < 2 ^ 32) (a
         ap told
             (ap (λ (bytes : List ℕ). readAs bytes (length store)) is
             ∙ read-long (messageOf h xs) (length store) room
-            ∙ sym (done-by _ _ (sym (back .same-header)) (back .accepted))),
+            ∙ outcome-done _ _ _ (back .accepted)
+            ∙ ap Fields (back .same-header)),
         ap (λ (bytes : List ℕ). readInto bytes store) is
             ∙ read-done (messageOf h xs) store room (back .accepted)
             ∙ ap₂ (λ (ys : List ℕ) (n : ℕ). ys ++ drop n store) (back .same-elements) same-count,
@@ -121,8 +122,8 @@ module _ (h : Header) (xs out store : List ℕ) (number : h .number < 2 ^ 32) (a
 
 module _ (message out store : List ℕ) (h : Header) (bytes : AllBelow 256 message) (read : told (readAs message (length store)) ≡ done (fields h))
     (whole : length out ≡ length message) where
-  answered : readAs message (length store) ≡ Done h
-  answered = told-done (readAs message (length store)) h read
+  has-fields : readAs message (length store) ≡ Fields h
+  has-fields = told-fields (readAs message (length store)) h read
 
   -- the output of reading was long enough
   room : 4096 ≤ length store
@@ -130,11 +131,11 @@ module _ (message out store : List ℕ) (h : Header) (bytes : AllBelow 256 messa
       (le-or-lt 4096 (length store))
     where
       never : readAs message (length store) ≡ Refused 13 → ⊥
-      never e = let z : _≡_ {A = ℕ} 1 0 = cc answered in suc-ne-zero 0 z
+      never e = let z : _≡_ {A = ℕ} 1 0 = cc has-fields in suc-ne-zero 0 z
 
   accepted : (first (messageTests message) ≡ 0) × (h ≡ headerOf message)
   unfolding examined
-  accepted = done-told _ _ (sym (read-long message (length store) room) ∙ answered)
+  accepted = fields-told _ _ (sym (read-long message (length store) room) ∙ has-fields)
 
   same-elements : take (elementCount h) (readInto message store) ≡ elements message
   unfolding elements

@@ -11,9 +11,10 @@ use Prim.Native.Nat.{ℕ, _+_, _*_, _^_, _<_, _≤_}
 use lib.ListN.{length, take, drop}
 use Rattle.algebra.specs.Lists.{AllBelow}
 use Rattle.refusal.specs.Chain.{first, done}
+use Rattle.refusal.specs.Limits.{mostElements}
 use Rattle.message_header.specs.declared.Header.{Header}
-use Rattle.message_header.specs.Header.{headerOf, elementCount, fields, told}
-use Rattle.message.specs.Format.{messageOf, elements, writeTests, messageTests, written, readAs, readInto}
+use Rattle.message_header.specs.Header.{headerOf, elementCount, fields}
+use Rattle.message.specs.Format.{messageOf, elements, writeTests, messageTests, written, readAs, readInto, told}
 
 pub record ReadsBack (h : Header) (xs : List ℕ) : Type 0 where
   pub whole : length (messageOf h xs) ≡ 16 + 4 * elementCount h
@@ -31,8 +32,9 @@ pub record RoundTrips : Type 0 where
   pub written-reads : (h : Header) (xs : List ℕ) (room : ℕ) → h .number < 2 ^ 32 → first (writeTests h xs room) ≡ 0 → ReadsBack h xs
   pub read-written : (message : List ℕ) → AllBelow 256 message → first (messageTests message) ≡ 0 → IsWritten message
   pub write-then-read : (h : Header) (xs out store : List ℕ) → h .number < 2 ^ 32 → first (writeTests h xs (length out)) ≡ 0
-      → 4096 ≤ length store
-      → (told (readAs (written h xs out) (length store)) ≡ done (fields h)) × (readInto (written h xs out) store ≡ xs ++ drop (length xs) store)
+      → mostElements ≤ length store
+      → (told (readAs (written h xs out) (length store)) ≡ done (fields h))
+      × (readInto (written h xs out) store ≡ xs ++ drop (length xs) store)
   pub read-then-write : (message out store : List ℕ) (h : Header) → AllBelow 256 message
       → told (readAs message (length store)) ≡ done (fields h)
       → length out ≡ length message

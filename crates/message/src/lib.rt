@@ -3,34 +3,35 @@ ghost use mathlib.Core.Path.{_≡_};
 ghost use lib.ListN.{length};
 ghost use Rattle.refusal.specs.Chain.{first};
 ghost use Rattle.message.specs.Format.{writeTests, written, examined, readAs, readInto};
-use field::Named;
+use message_header::Checked;
 use message_header::HEADER_BYTES;
 use message_header::Header;
-use message_header::Reading;
-use refusal::either;
+use message_header::Opened;
 
-// How many elements the output of reading has room for at least.
-const READ_ROOM: usize = 4096;
+// What looking a message over and reading it return: its fields, or the number of the first test that holds.
+pub enum Parsed {
+    Fields(Header),
+    Refused(u32),
+}
 
 // The tests of writing, where the output has room for that many bytes: those of the fields, 13 and 14.
 fn write_refusal(h: Header, xs: &[u32], room: usize) -> u32
     ensures { λ r. ⌜ r ≡ first (writeTests h (now (xs .entry)) room) ⌝ }
 {
-    let fields = message_header::field_refusal(h);
-    if fields != 0 {
-        return fields;
+    let checked = message_header::check_fields(h);
+    match checked {
+        Checked::Refused(number) => number,
+        Checked::Fit(modulus) => {
+            let count = (h.rows * h.columns) as usize;
+            if (xs.len() != count) | (room != HEADER_BYTES + 4 * count) {
+                return refusal::LENGTH;
+            }
+            if !field::all_below(modulus, xs) {
+                return refusal::ELEMENT;
+            }
+            0
+        }
     }
-    let Named::Is(modulus) = field::modulus_named(h.modulus) else {
-        return refusal::MODULUS;
-    };
-    let count = (h.rows * h.columns) as usize;
-    if either(xs.len() != count, room != HEADER_BYTES + 4 * count) {
-        return refusal::LENGTH;
-    }
-    if !field::all_below(modulus, xs) {
-        return refusal::ELEMENT;
-    }
-    0
 }
 
 // Writes a message with these fields and elements: the output then holds it, or it is refused by number and stays as it was.
@@ -43,42 +44,41 @@ pub fn write_message(h: Header, xs: &[u32], out: &mut [u8]) -> u32
         return refused;
     }
     let head = message_header::header_bytes(h);
-    text::put_bytes(out, 0, &head);
+    message_bytes::copy_bytes(&head, out);
     message_bytes::write_elements(xs, &mut out[HEADER_BYTES..]);
     0
 }
 
-// Looks a message over: its fields, or the number of the first test that fits.
-pub fn examine(message: &[u8]) -> Reading
+// Looks a message over: its fields, or the number of the first test that holds.
+pub fn examine(message: &[u8]) -> Parsed
     ensures { λ r. ⌜ r ≡ examined (now (message .entry)) ⌝ }
 {
-    let head = message_header::read_header(message);
-    let Reading::Done(h) = head else {
-        return head;
-    };
-    let Named::Is(modulus) = field::modulus_named(h.modulus) else {
-        return Reading::Refused(refusal::MODULUS);
-    };
-    if message.len() != HEADER_BYTES + 4 * (h.rows * h.columns) as usize {
-        return Reading::Refused(refusal::MESSAGE_LENGTH);
+    let opened = message_header::read_header(message);
+    match opened {
+        Opened::Refused(number) => Parsed::Refused(number),
+        Opened::Fields(h, modulus) => {
+            if message.len() != HEADER_BYTES + 4 * (h.rows * h.columns) as usize {
+                return Parsed::Refused(refusal::MESSAGE_LENGTH);
+            }
+            if !message_bytes::bytes_below(modulus, &message[HEADER_BYTES..]) {
+                return Parsed::Refused(refusal::ELEMENT);
+            }
+            Parsed::Fields(h)
+        }
     }
-    if !message_bytes::bytes_below(modulus, &message[HEADER_BYTES..]) {
-        return Reading::Refused(refusal::ELEMENT);
-    }
-    Reading::Done(h)
 }
 
 // Reads a message: tells its fields and writes its elements, or is refused by number and writes nothing.
-pub fn read_message(message: &[u8], out: &mut [u32]) -> Reading
+pub fn read_message(message: &[u8], out: &mut [u32]) -> Parsed
     ensures outcome { λ r. ⌜ r ≡ readAs (now (message .entry)) (length (now (out .entry))) ⌝ }
     ensures elements { λ _. ⌜ now (out .exit) ≡ readInto (now (message .entry)) (now (out .entry)) ⌝ }
 {
-    if out.len() < READ_ROOM {
-        return Reading::Refused(refusal::LENGTH);
+    if out.len() < refusal::MOST_ELEMENTS {
+        return Parsed::Refused(refusal::LENGTH);
     }
-    let answer = examine(message);
-    if let Reading::Done(_) = answer {
+    let parsed = examine(message);
+    if let Parsed::Fields(_) = parsed {
         message_bytes::read_elements(&message[HEADER_BYTES..], out);
     }
-    answer
+    parsed
 }

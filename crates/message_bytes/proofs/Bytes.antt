@@ -3,7 +3,7 @@
 --   length-bigEndian            as many bytes as the width
 --   bigEndian-bytes             each byte is below 256
 --   numberAt-front              more bytes after it change no number
---   numberAt-past               nor do some before it, by which its place moves
+--   numberAt-past               nor do some before it, by which its offset moves
 --   numberAt-bigEndian          a number reads back from its bytes
 --   bigEndian-numberAt          bytes come back from the number that they hold
 --   length-bytesOf              4 bytes for each element
@@ -40,19 +40,19 @@ bigEndian-bytes (suc width) x i h =
 
 -- ---- numbers in longer lists
 
-pub numberAt-front : (xs ys : List ℕ) (at width : ℕ) → at + width ≤ length xs → numberAt (xs ++ ys) at width ≡ numberAt xs at width
+pub numberAt-front : (xs ys : List ℕ) (start width : ℕ) → start + width ≤ length xs → numberAt (xs ++ ys) start width ≡ numberAt xs start width
 unfolding numberAt
-numberAt-front xs ys at zero h = refl
-numberAt-front xs ys at (suc width) h =
-    ap₂ (λ (n b : ℕ). n * 256 + b) (numberAt-front xs ys at width (omega arith)) (List·getD-append xs ys 0 (at + width) (omega arith))
+numberAt-front xs ys start zero h = refl
+numberAt-front xs ys start (suc width) h =
+    ap₂ (λ (n b : ℕ). n * 256 + b) (numberAt-front xs ys start width (omega arith)) (List·getD-append xs ys 0 (start + width) (omega arith))
 
-pub numberAt-past : (xs ys : List ℕ) (n at width : ℕ) → length xs ≡ n → numberAt (xs ++ ys) (n + at) width ≡ numberAt ys at width
+pub numberAt-past : (xs ys : List ℕ) (n start width : ℕ) → length xs ≡ n → numberAt (xs ++ ys) (n + start) width ≡ numberAt ys start width
 unfolding numberAt
-numberAt-past xs ys n at zero e = refl
-numberAt-past xs ys n at (suc width) e =
-    let place : n + at + width ≡ length xs + (at + width) = omega arith in
-    ap₂ (λ (n b : ℕ). n * 256 + b) (numberAt-past xs ys n at width e)
-    (ap (λ (k : ℕ). getD (xs ++ ys) k 0) place ∙ getD-append-add xs ys (at + width) 0)
+numberAt-past xs ys n start zero e = refl
+numberAt-past xs ys n start (suc width) e =
+    let moved : n + start + width ≡ length xs + (start + width) = omega arith in
+    ap₂ (λ (n b : ℕ). n * 256 + b) (numberAt-past xs ys n start width e)
+    (ap (λ (k : ℕ). getD (xs ++ ys) k 0) moved ∙ getD-append-add xs ys (start + width) 0)
 
 -- ---- a number and its bytes
 
@@ -67,20 +67,20 @@ numberAt-bigEndian (suc width) x h =
     let front = numberAt-front high (x % 256 ∷ []) 0 width (omega arith) ∙ numberAt-bigEndian width (x / 256) rest in
     omega (arith, low, ap (λ (k : ℕ). k * 256) front)
 
-pub bigEndian-numberAt : (bytes : List ℕ) (at width : ℕ) → AllBelow 256 bytes → at + width ≤ length bytes
-    → bigEndian width (numberAt bytes at width) ≡ take width (drop at bytes)
+pub bigEndian-numberAt : (bytes : List ℕ) (start width : ℕ) → AllBelow 256 bytes → start + width ≤ length bytes
+    → bigEndian width (numberAt bytes start width) ≡ take width (drop start bytes)
 unfolding numberAt bigEndian
-bigEndian-numberAt bytes at zero b h = refl
-bigEndian-numberAt bytes at (suc width) b h =
-    let n = numberAt bytes at width in
-    let x = getD bytes (at + width) 0 in
-    let small : x < 256 = b (at + width) (omega arith) in
+bigEndian-numberAt bytes start zero b h = refl
+bigEndian-numberAt bytes start (suc width) b h =
+    let n = numberAt bytes start width in
+    let x = getD bytes (start + width) 0 in
+    let small : x < 256 = b (start + width) (omega arith) in
     let high : (n * 256 + x) / 256 ≡ n = omega arith in
     let low : (n * 256 + x) % 256 ≡ x = omega arith in
-    let same : x ≡ getD (drop at bytes) width 0 = sym (getD-drop at bytes width 0) in
+    let same : x ≡ getD (drop start bytes) width 0 = sym (getD-drop start bytes width 0) in
     ap₂ (λ (k y : ℕ). bigEndian width k ++ (y ∷ [])) high (low ∙ same)
-    ∙ ap (λ (xs : List ℕ). xs ++ (getD (drop at bytes) width 0 ∷ [])) (bigEndian-numberAt bytes at width b (omega arith))
-    ∙ sym (take-suc (drop at bytes) width 0 (omega (arith, length-drop at bytes)))
+    ∙ ap (λ (xs : List ℕ). xs ++ (getD (drop start bytes) width 0 ∷ [])) (bigEndian-numberAt bytes start width b (omega arith))
+    ∙ sym (take-suc (drop start bytes) width 0 (omega (arith, length-drop start bytes)))
 
 -- ---- elements and their bytes
 
@@ -100,16 +100,16 @@ unfolding bytesOf
 bytesOf-bytes [] i h = absurd (not-suc-le-zero h)
 bytesOf-bytes (x ∷ xs) i h = below-append 256 (bigEndian 4 x) (bytesOf xs) (bigEndian-bytes 4 x) (bytesOf-bytes xs) i h
 
-element-at : (xs : List ℕ) (i : ℕ) → AllBelow (2 ^ 32) xs → i < length xs → numberAt (bytesOf xs) (i * 4) 4 ≡ getD xs i 0
+element-back : (xs : List ℕ) (i : ℕ) → AllBelow (2 ^ 32) xs → i < length xs → numberAt (bytesOf xs) (i * 4) 4 ≡ getD xs i 0
 unfolding bytesOf
-element-at [] i b h = absurd (not-suc-le-zero h)
-element-at (x ∷ xs) zero b h =
+element-back [] i b h = absurd (not-suc-le-zero h)
+element-back (x ∷ xs) zero b h =
     numberAt-front (bigEndian 4 x) (bytesOf xs) 0 4 (omega (arith, length-bigEndian 4 x)) ∙ numberAt-bigEndian 4 x (b 0 h)
-element-at (x ∷ xs) (suc i) b h =
-    let place : suc i * 4 ≡ 4 + i * 4 = omega arith in
-    ap (λ (k : ℕ). numberAt (bigEndian 4 x ++ bytesOf xs) k 4) place
+element-back (x ∷ xs) (suc i) b h =
+    let moved : suc i * 4 ≡ 4 + i * 4 = omega arith in
+    ap (λ (k : ℕ). numberAt (bigEndian 4 x ++ bytesOf xs) k 4) moved
     ∙ numberAt-past (bigEndian 4 x) (bytesOf xs) 4 (i * 4) 4 (length-bigEndian 4 x)
-    ∙ element-at xs i (λ j l. b (suc j) (omega arith)) (le-of-suc-le-suc h)
+    ∙ element-back xs i (λ j l. b (suc j) (omega arith)) (le-of-suc-le-suc h)
 
 pub elements-of-bytes : (xs : List ℕ) → AllBelow (2 ^ 32) xs → elementsOf (length xs) (bytesOf xs) ≡ xs
 unfolding elementsOf
@@ -117,7 +117,7 @@ elements-of-bytes xs b =
     let f : ℕ → ℕ = λ i. numberAt (bytesOf xs) (i * 4) 4 in
     let n = length-tab f (length xs) in
     ext-getD 0 (tab f (length xs)) xs n
-    (λ i h. getD-tab f (length xs) i 0 (omega arith) ∙ element-at xs i b (omega arith))
+    (λ i h. getD-tab f (length xs) i 0 (omega arith) ∙ element-back xs i b (omega arith))
 
 first-elements : (n : ℕ) (bytes : List ℕ) → AllBelow 256 bytes → n * 4 ≤ length bytes → bytesOf (elementsOf n bytes) ≡ take (n * 4) bytes
 unfolding elementsOf bytesOf tab

@@ -1,35 +1,33 @@
 -- Numbers of one, two and four bytes, and elements.
 --
 --   number-of-one, number-of-two, number-of-four    as `words` reads them
---   length-elements, element-at                     the elements of bytes, one by one
---   Four i room, four                               the four bytes of element i lie in a list of so many bytes
+--   length-elements, element-is                     the elements of bytes, one by one
 --   write-four, length-four                         one more element is written as its four bytes; the output stays as long
 --   written-exact                                   elements written where they just fit
 use mathlib.Core.Path.{_≡_, sym, ap, ap₂, _∙_}
 use mathlib.Core.List.{List, [], _∷_, _++_, append-nil}
-use Prim.Native.Nat.{ℕ, suc, _+_, _*_, _/_, _%_, _^_, _<_, _≤_, min}
+use Prim.Native.Nat.{ℕ, suc, _+_, _*_, _/_, _%_, _<_, _≤_, min}
 use native.Mathlib.Nat.{add-zero}
 use native.Mathlib.Numerals.{add-one}
 use native.Mathlib.Omega.{arith}
-use mir.Syntax.{w64}
-use mir.Val.{Fits}
 use lib.ListN.{length, getD, take, drop, set, length-set, drop-of-length-le}
 use lib.Seq.{take-suc, take-length, take-at, drop-drop, drop-append-add, length-take-le, sets-eq}
 use Rattle.algebra.proofs.Lists.{length-tab, getD-tab}
-use Rattle.message_bytes.specs.Bytes.{bigEndian, numberAt, bytesOf, elementsOf, common}
+use Rattle.message_bytes.specs.Bytes.{bigEndian, numberAt, bytesOf, elementsOf}
+use Rattle.message_bytes.specs.Contracts.{common}
 use Rattle.message_bytes.proofs.Bytes.{length-bytesOf, bytesOf-append}
 
-module _ (bytes : List ℕ) (at : ℕ) where
-  pub number-of-one : numberAt bytes at 1 ≡ getD bytes at 0
+module _ (bytes : List ℕ) (start : ℕ) where
+  pub number-of-one : numberAt bytes start 1 ≡ getD bytes start 0
   unfolding numberAt
-  number-of-one = omega (arith, ap (λ (k : ℕ). getD bytes k 0) (add-zero at))
+  number-of-one = omega (arith, ap (λ (k : ℕ). getD bytes k 0) (add-zero start))
 
-  pub number-of-two : numberAt bytes at 2 ≡ getD bytes at 0 * 256 + getD bytes (at + 1) 0
+  pub number-of-two : numberAt bytes start 2 ≡ getD bytes start 0 * 256 + getD bytes (start + 1) 0
   unfolding numberAt
   number-of-two = omega (arith, number-of-one)
 
-  pub number-of-four : numberAt bytes at 4
-      ≡ ((getD bytes at 0 * 256 + getD bytes (at + 1) 0) * 256 + getD bytes (at + 2) 0) * 256 + getD bytes (at + 3) 0
+  pub number-of-four : numberAt bytes start 4
+      ≡ ((getD bytes start 0 * 256 + getD bytes (start + 1) 0) * 256 + getD bytes (start + 2) 0) * 256 + getD bytes (start + 3) 0
   unfolding numberAt
   number-of-four = omega (arith, number-of-two)
 
@@ -37,32 +35,9 @@ pub length-elements : (n : ℕ) (bytes : List ℕ) → length (elementsOf n byte
 unfolding elementsOf
 length-elements n bytes = length-tab (λ (i : ℕ). numberAt bytes (i * 4) 4) n
 
-pub element-at : (n : ℕ) (bytes : List ℕ) (i : ℕ) → i < n → getD (elementsOf n bytes) i 0
-    ≡ ((getD bytes (i * 4) 0 * 256 + getD bytes (i * 4 + 1) 0) * 256 + getD bytes (i * 4 + 2) 0) * 256 + getD bytes (i * 4 + 3) 0
+pub element-is : (n : ℕ) (bytes : List ℕ) (i : ℕ) → i < n → getD (elementsOf n bytes) i 0 ≡ numberAt bytes (i * 4) 4
 unfolding elementsOf
-element-at n bytes i h = getD-tab (λ (k : ℕ). numberAt bytes (k * 4) 4) n i 0 h ∙ number-of-four bytes (i * 4)
-
-pub record Four (i room : ℕ) : Type 0 where
-  pub at-fits : Fits w64 (i * 4)
-  pub one-fits : Fits w64 (i * 4 + 1)
-  pub two-fits : Fits w64 (i * 4 + 2)
-  pub three-fits : Fits w64 (i * 4 + 3)
-  pub first : i * 4 < room
-  pub second : i * 4 + 1 < room
-  pub third : i * 4 + 2 < room
-  pub fourth : i * 4 + 3 < room
-
-pub four : (i n room : ℕ) → i < n → n * 4 ≤ room → room < 2 ^ 64 → Four i room
-four i n room h enough small = record {
-  at-fits = record { fits = omega arith };
-  one-fits = record { fits = omega arith };
-  two-fits = record { fits = omega arith };
-  three-fits = record { fits = omega arith };
-  first = omega arith;
-  second = omega arith;
-  third = omega arith;
-  fourth = omega arith;
-}
+element-is n bytes i h = getD-tab (λ (k : ℕ). numberAt bytes (k * 4) 4) n i 0 h
 
 bytes-of-four : (x : ℕ) → bigEndian 4 x ≡ x / 16777216 % 256 ∷ x / 65536 % 256 ∷ x / 256 % 256 ∷ x % 256 ∷ []
 unfolding bigEndian
@@ -77,13 +52,13 @@ bytes-more xs i h =
     rw (add-one, take-suc xs i 0 h)
     (bytesOf-append (take i xs) (getD xs i 0 ∷ []) ∙ ap (λ (l : List ℕ). bytesOf (take i xs) ++ l) (append-nil (bigEndian 4 (getD xs i 0))))
 
-stores : (out : List ℕ) (at a b c d : ℕ) → at + 4 ≤ length out
-    → set (set (set (set out at a) (at + 1) b) (at + 2) c) (at + 3) d ≡ take at out ++ (a ∷ b ∷ c ∷ d ∷ []) ++ drop (at + 4) out
-stores out at a b c d h =
-    let one : at + 1 ≡ suc at = omega arith in
-    let two : at + 2 ≡ suc (suc at) = omega arith in
-    let three : at + 3 ≡ suc (suc (suc at)) = omega arith in
-    rw (one, two, three) (sets-eq (a ∷ b ∷ c ∷ d ∷ []) out at h)
+stores : (out : List ℕ) (start a b c d : ℕ) → start + 4 ≤ length out
+    → set (set (set (set out start a) (start + 1) b) (start + 2) c) (start + 3) d ≡ take start out ++ (a ∷ b ∷ c ∷ d ∷ []) ++ drop (start + 4) out
+stores out start a b c d h =
+    let one : start + 1 ≡ suc start = omega arith in
+    let two : start + 2 ≡ suc (suc start) = omega arith in
+    let three : start + 3 ≡ suc (suc (suc start)) = omega arith in
+    rw (one, two, three) (sets-eq (a ∷ b ∷ c ∷ d ∷ []) out start h)
 
 module _ (xs rest out : List ℕ) (i : ℕ) (is : out ≡ bytesOf (take i xs) ++ drop (i * 4) rest) where
   pub write-four : {n a b c d : ℕ} → i < n → n ≤ length xs → n * 4 ≤ length rest → length out ≡ length rest

@@ -1,2 +1,3 @@
 -- Elements as bytes.
 pub mod Bytes
+pub mod Contracts

@@ -4,47 +4,48 @@
 --   ranged            they are where the tests of the fields pass
 --   Headed message    what the tests of a message's header ask
 --   headed, heads     they pass where it holds, and only there
-use mathlib.Core.Path.{_≡_, ap, _∙_}
-use mathlib.Core.Bool.{false, not}
+use mathlib.Core.Path.{_≡_, _∙_}
+use mathlib.Core.Bool.{false}
 use mathlib.Core.List.{List}
 use Prim.Native.Nat.{ℕ, _^_, _<_, _≤_}
-use lib.Dec.{ltb}
 use lib.ListN.{length}
-use borrow.Author.Tests.{ltb-false, eq-eqb}
-use Rattle.algebra.proofs.Tests.{equal}
+use borrow.Author.Tests.{ltb-false}
+use Rattle.algebra.proofs.Tests.{equal, alike}
 use Rattle.refusal.specs.Chain.{first}
-use Rattle.refusal.proofs.Chains.{first-clear, inside-high}
+use Rattle.refusal.proofs.Chains.{first-clear, inside-low, inside-high}
 use Rattle.refusal.proofs.Limits.{within-both}
 use Rattle.field.specs.Modulus.{moduli, modulus, noModulus}
 use Rattle.field.proofs.Moduli.{known-number}
 use Rattle.message_bytes.specs.Bytes.{numberAt}
 use Rattle.message_header.specs.declared.Header.{Header}
-use Rattle.message_header.specs.Header.{mark, version, headerOf, elementCount, kindTest, hostTest, sizeTest, blockTest, fieldTests, markTest, versionTest, headerTests}
-use Rattle.message_header.proofs.Tests.{told-fields}
+use Rattle.message_header.specs.Header.{mark, version, headerOf, elementCount, fieldTests, headerTests}
+use Rattle.message_header.proofs.Tests.{past-version}
 
 pub record Ranged (h : Header) : Type 0 where
   pub known : noModulus (h .modulus) ≡ false
   pub prime : modulus (h .modulus) < 2 ^ 31
   pub kind : h .kind ≤ 3
   pub modulus : h .modulus ≤ 3
+  pub host-low : 1 ≤ h .host
   pub host : h .host ≤ 64
   pub rows : h .rows ≤ 16384
   pub columns : h .columns ≤ 16384
   pub count : elementCount h ≤ 4096
 
 pub ranged : (h : Header) → first (fieldTests h) ≡ 0 → Ranged h
-unfolding fieldTests kindTest hostTest sizeTest blockTest noModulus moduli
+unfolding fieldTests noModulus moduli
 ranged h e =
-    let kind = first-clear (kindTest h) 15 _ e in
-    let number = first-clear (noModulus (h .modulus)) 0 _ (kind .1) in
-    let host = first-clear (hostTest h) 11 _ (number .1) in
-    let size = first-clear (sizeTest h) 1 _ (host .1) in
-    let block = first-clear (blockTest h) 5 _ (size .1) in
+    let kind = first-clear _ 15 _ e in
+    let number = first-clear _ 0 _ (kind .1) in
+    let host = first-clear _ 11 _ (number .1) in
+    let size = first-clear _ 1 _ (host .1) in
+    let block = first-clear _ 5 _ (size .1) in
     let sides = within-both 16384 (h .rows) (h .columns) (size .0) in
     record {
       known = number .0;
       kind = inside-high 1 3 _ (kind .0);
       modulus = inside-high 1 3 _ (number .0);
+      host-low = inside-low 1 64 _ (host .0);
       host = inside-high 1 64 _ (host .0);
       rows = sides .0 .high;
       columns = sides .1 .high;
@@ -60,11 +61,11 @@ pub record Headed (message : List ℕ) : Type 0 where
 
 module _ (message : List ℕ) where
   pub headed : first (headerTests message) ≡ 0 → Headed message
-  unfolding headerTests markTest versionTest
+  unfolding headerTests
   headed e =
-      let long = first-clear (ltb (length message) 16) 16 _ e in
-      let mark = first-clear (markTest message) 17 _ (long .1) in
-      let version = first-clear (versionTest message) 18 _ (mark .1) in
+      let long = first-clear _ 16 _ e in
+      let mark = first-clear _ 17 _ (long .1) in
+      let version = first-clear _ 18 _ (mark .1) in
       record {
         long = ltb-false (length message) 16 (long .0);
         mark = equal _ _ (mark .0);
@@ -73,5 +74,4 @@ module _ (message : List ℕ) where
       }
 
   pub heads : Headed message → first (headerTests message) ≡ 0
-  unfolding markTest versionTest
-  heads h = told-fields message (h .long) (ap not (eq-eqb _ _ (h .mark))) (ap not (eq-eqb _ _ (h .version))) ∙ h .fields
+  heads h = past-version message (h .long) (alike _ _ (h .mark)) (alike _ _ (h .version)) ∙ h .fields

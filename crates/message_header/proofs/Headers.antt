@@ -6,13 +6,13 @@
 --   mark-header, version-header  a message that was made begins with mark and version
 --   headerOf-header   the fields of a message are those that it was made of
 --   header-headerOf   the first 16 bytes of a message are the header with the fields that they tell
-use mathlib.Core.Path.{_≡_, refl, sym, ap, ap₂, _∙_}
+use mathlib.Core.Path.{_≡_, refl, sym, ap₂, _∙_}
 use mathlib.Core.List.{List, [], _∷_, _++_}
 use Prim.Native.Nat.{ℕ, _+_, _/_, _%_, _^_, _<_, _≤_}
 use native.Mathlib.Omega.{arith}
 use lib.Dec.{lit≤}
-use lib.ListN.{length, take, drop}
-use lib.Seq.{take-add, drop-drop}
+use lib.ListN.{length, take}
+use lib.Seq.{take-add}
 use Rattle.algebra.specs.Lists.{AllBelow}
 use Rattle.algebra.proofs.Lists.{below-append}
 use Rattle.message_bytes.specs.Bytes.{bigEndian, numberAt}
@@ -41,13 +41,17 @@ module _ (h : Header) where
   pub header-bytes : AllBelow 256 (header h)
   unfolding header
   header-bytes =
-      below-append 256 (bigEndian 3 mark) _ (bigEndian-bytes 3 mark)
-      (below-append 256 (bigEndian 2 version) _ (bigEndian-bytes 2 version)
-      (below-append 256 (bigEndian 1 (h .kind)) _ (bigEndian-bytes 1 (h .kind))
-      (below-append 256 (bigEndian 1 (h .modulus)) _ (bigEndian-bytes 1 (h .modulus))
-      (below-append 256 (bigEndian 1 (h .host)) _ (bigEndian-bytes 1 (h .host))
-      (below-append 256 (bigEndian 2 (h .rows)) _ (bigEndian-bytes 2 (h .rows))
-      (below-append 256 (bigEndian 2 (h .columns)) _ (bigEndian-bytes 2 (h .columns)) (bigEndian-bytes 4 (h .number))))))))
+      let a = bigEndian 3 mark in
+      let b = a ++ bigEndian 2 version in
+      let c = b ++ bigEndian 1 (h .kind) in
+      let d = c ++ bigEndian 1 (h .modulus) in
+      let e = d ++ bigEndian 1 (h .host) in
+      let f = e ++ bigEndian 2 (h .rows) in
+      let g = f ++ bigEndian 2 (h .columns) in
+      more g 4 _ (more f 2 _ (more e 2 _ (more d 1 _ (more c 1 _ (more b 1 _ (more a 2 _ (bigEndian-bytes 3 mark)))))))
+    where
+      more : (xs : List ℕ) (w x : ℕ) → AllBelow 256 xs → AllBelow 256 (xs ++ bigEndian w x)
+      more xs w x below = below-append 256 xs (bigEndian w x) below (bigEndian-bytes w x)
 
   module _ (rest : List ℕ) where
     pub mark-header : numberAt (header h ++ rest) 0 3 ≡ mark
@@ -70,32 +74,13 @@ module _ (h : Header) where
         λ i. record { kind = kind i; modulus = modulus i; host = host i; rows = rows i; columns = columns i; number = number i }
 
 module _ (message : List ℕ) (bytes : AllBelow 256 message) (long : 16 ≤ length message) where
-  part : (at w : ℕ) → at + w ≤ 16 → bigEndian w (numberAt message at w) ≡ take w (drop at message)
-  part at w l = bigEndian-numberAt message at w bytes (omega arith)
-
-  -- bytes from a place on, and more after them
-  join : (at w n : ℕ) {tail : List ℕ} → at + w ≤ 16 → tail ≡ take n (drop (at + w) message)
-      → bigEndian w (numberAt message at w) ++ tail ≡ take (w + n) (drop at message)
-  join at w n l e =
-      ap₂ (λ (xs ys : List ℕ). xs ++ ys) (part at w l) e
-      ∙ sym (take-add w n (drop at message) ∙ ap (λ (xs : List ℕ). take w (drop at message) ++ take n xs) (drop-drop w at message))
+  -- the first n bytes, and a field after them
+  join : (n w : ℕ) {front : List ℕ} → n + w ≤ 16 → front ≡ take n message → front ++ bigEndian w (numberAt message n w) ≡ take (n + w) message
+  join n w l e = ap₂ (λ (xs ys : List ℕ). xs ++ ys) e (bigEndian-numberAt message n w bytes (omega arith)) ∙ sym (take-add n w message)
 
   pub header-headerOf : numberAt message 0 3 ≡ mark → numberAt message 3 2 ≡ version → header (headerOf message) ≡ take 16 message
   unfolding header headerOf
   header-headerOf m v =
-      ap₂ (λ (a b : ℕ). bigEndian 3 a ++ (bigEndian 2 b ++ fields)) (sym m) (sym v)
-      ∙ join 0 3 13 (lit≤ tt) (join 3 2 11 (lit≤ tt) fields-part)
-    where
-      fields : List ℕ
-      fields =
-          bigEndian 1 (numberAt message 5 1)
-          ++ (bigEndian 1 (numberAt message 6 1)
-          ++ (bigEndian 1 (numberAt message 7 1)
-          ++ (bigEndian 2 (numberAt message 8 2)
-          ++ (bigEndian 2 (numberAt message 10 2)
-          ++ bigEndian 4 (numberAt message 12 4)))))
-
-      fields-part : fields ≡ take 11 (drop 5 message)
-      fields-part =
-          join 5 1 10 (lit≤ tt) (join 6 1 9 (lit≤ tt) (join 7 1 8 (lit≤ tt)
-          (join 8 2 6 (lit≤ tt) (join 10 2 4 (lit≤ tt) (part 12 4 (lit≤ tt))))))
+      rw (← m, ← v)
+      (join 12 4 (lit≤ tt) (join 10 2 (lit≤ tt) (join 8 2 (lit≤ tt) (join 7 1 (lit≤ tt)
+      (join 6 1 (lit≤ tt) (join 5 1 (lit≤ tt) (join 3 2 (lit≤ tt) (bigEndian-numberAt message 0 3 bytes (omega arith)))))))))

@@ -1,36 +1,83 @@
--- What reading answers, by the number of the first test that fits.
+-- What the tests of the fields and reading a header return, by the number of the first test that holds.
 --
---   done-by, refused-by    the answer of a number, which is 0 or is not
---   done-told, refused-told  and what an answer tells of its number
+--   refused-by             the outcome of a number that is not 0
+--   fit-told, check-told   what the tests of the fields tell by what they return: fit, or refused
+--   opened-told, unopened-told  and reading a header
 --   same-fields            two headers with the same fields
---   told-done              an answer that tells fields on paper is done with these fields
 use mathlib.Core.Path.{_≡_, refl, sym, ap, _∙_}
-use mathlib.Core.List.{[]}
+use mathlib.Core.Bool.{false, true≢false}
+use mathlib.Core.List.{List}
 use Prim.Native.Nat.{ℕ, zero, suc}
 use native.Mathlib.Nat.{suc-ne-zero}
-use Rattle.refusal.specs.Chain.{outcome, done}
-use Rattle.refusal.proofs.Chains.{outcome-done, outcome-refused}
+use Rattle.refusal.specs.Chain.{first, outcome}
+use Rattle.refusal.proofs.Chains.{outcome-refused}
+use Rattle.field.specs.declared.Modulus.{Modulus}
+use Rattle.field.specs.declared.Named.{Named}
+use Rattle.field.specs.declared.Named.the-variants.{Is, Unknown}
+use Rattle.field.specs.Modulus.{noModulus, named}
+use Rattle.field.proofs.Moduli.{none-named}
 use Rattle.message_header.specs.declared.Header.{Header}
-use Rattle.message_header.specs.declared.Reading.{Reading}
-use Rattle.message_header.specs.declared.Reading.the-variants.{Done, Refused}
-use Rattle.message_header.specs.Header.{fields, told}
+use Rattle.message_header.specs.declared.Checked.the-variants.{Fit}
+use Rattle.message_header.specs.declared.Checked.the-variants.{Refused as Checked·Refused}
+use Rattle.message_header.specs.declared.Opened.the-variants.{Fields}
+use Rattle.message_header.specs.declared.Opened.the-variants.{Refused as Opened·Refused}
+use Rattle.message_header.specs.Header.{headerOf, fieldTests, headerTests, fields}
+use Rattle.message_header.specs.Contracts.{modulusIn, checked, opened}
+use Rattle.message_header.proofs.Fields.{ranged, headed}
 
-module _ (h : Header) (number : ℕ) where
-  pub done-by : {k : Header} → k ≡ h → number ≡ 0 → Done k ≡ outcome number (Done h) Refused
-  done-by same e = ap Done same ∙ sym (outcome-done (Done h) Refused number e)
+pub refused-by : {A : Type 0} (value : A) (refused : ℕ → A) (number n : ℕ) → (n ≡ 0 → ⊥) → number ≡ n → refused n ≡ outcome number value refused
+refused-by value refused number n ne e = sym (ap (λ (k : ℕ). outcome k value refused) e ∙ outcome-refused value refused n ne)
 
-  pub refused-by : (n : ℕ) → (n ≡ 0 → ⊥) → number ≡ n → Refused n ≡ outcome number (Done h) Refused
-  refused-by n ne e = sym (ap (λ (k : ℕ). outcome k (Done h) Refused) e ∙ outcome-refused (Done h) Refused n ne)
+-- a modulus number names its modulus
+named-in : (n : ℕ) → noModulus n ≡ false → named n ≡ Is (modulusIn (named n))
+named-in n e = go (named n) refl
+  where
+    go : (x : Named) → named n ≡ x → x ≡ Is (modulusIn x)
+    go (Is m) is = refl
+    go Unknown is = absurd (true≢false (sym (none-named n is) ∙ e))
 
-pub done-told : (h : Header) (number : ℕ) {k : Header} → outcome number (Done h) Refused ≡ Done k → (number ≡ 0) × (k ≡ h)
-unfolding outcome
-done-told h zero e = (refl, cc)
-done-told h (suc n) e = let z : _≡_ {A = ℕ} 1 0 = cc in absurd (suc-ne-zero 0 z)
+module _ (h : Header) where
+  pub fit-told : {m : Modulus} → checked h ≡ Fit m → (first (fieldTests h) ≡ 0) × (named (h .modulus) ≡ Is m)
+  unfolding checked outcome
+  fit-told {m} e = go (first (fieldTests h)) refl e
+    where
+      go : (n : ℕ) → first (fieldTests h) ≡ n → outcome n (Fit (modulusIn (named (h .modulus)))) Checked·Refused ≡ Fit m
+          → (first (fieldTests h) ≡ 0) × (named (h .modulus) ≡ Is m)
+      go zero is e = (is, named-in (h .modulus) (ranged h is .known) ∙ cc)
+      go (suc n) is e = let z : _≡_ {A = ℕ} 1 0 = cc in absurd (suc-ne-zero 0 z)
 
-pub refused-told : (h : Header) (number : ℕ) {n : ℕ} → outcome number (Done h) Refused ≡ Refused n → (number ≡ n) × (n ≡ 0 → ⊥)
-unfolding outcome
-refused-told h zero e = let z : _≡_ {A = ℕ} 1 0 = cc in absurd (suc-ne-zero 0 z)
-refused-told h (suc k) {n} e = let same : suc k ≡ n = cc in (same, λ z. suc-ne-zero k (same ∙ z))
+  pub check-told : {n : ℕ} → checked h ≡ Checked·Refused n → (first (fieldTests h) ≡ n) × (n ≡ 0 → ⊥)
+  unfolding checked outcome
+  check-told {n} e = go (first (fieldTests h)) e
+    where
+      go : (k : ℕ) → outcome k (Fit (modulusIn (named (h .modulus)))) Checked·Refused ≡ Checked·Refused n → (k ≡ n) × (n ≡ 0 → ⊥)
+      go zero e = let z : _≡_ {A = ℕ} 1 0 = cc in absurd (suc-ne-zero 0 z)
+      go (suc k) e = let same : suc k ≡ n = cc in (same, λ z. suc-ne-zero k (same ∙ z))
+
+module _ (message : List ℕ) where
+  pub opened-told : {h : Header} {m : Modulus} → opened message ≡ Fields h m
+      → (first (headerTests message) ≡ 0) × (h ≡ headerOf message) × (named (h .modulus) ≡ Is m)
+  unfolding opened outcome
+  opened-told {h} {m} e = go (first (headerTests message)) refl e
+    where
+      here : Header
+      here = headerOf message
+
+      go : (n : ℕ) → first (headerTests message) ≡ n → outcome n (Fields here (modulusIn (named (here .modulus)))) Opened·Refused ≡ Fields h m
+          → (first (headerTests message) ≡ 0) × (h ≡ here) × (named (h .modulus) ≡ Is m)
+      go zero is e =
+          let same : h ≡ here = cc in
+          (is, same, ap (λ (k : Header). named (k .modulus)) same ∙ named-in (here .modulus) (ranged here (headed message is .fields) .known) ∙ cc)
+      go (suc n) is e = let z : _≡_ {A = ℕ} 1 0 = cc in absurd (suc-ne-zero 0 z)
+
+  pub unopened-told : {n : ℕ} → opened message ≡ Opened·Refused n → (first (headerTests message) ≡ n) × (n ≡ 0 → ⊥)
+  unfolding opened outcome
+  unopened-told {n} e = go (first (headerTests message)) e
+    where
+      go : (k : ℕ) → outcome k (Fields (headerOf message) (modulusIn (named (headerOf message .modulus)))) Opened·Refused ≡ Opened·Refused n
+          → (k ≡ n) × (n ≡ 0 → ⊥)
+      go zero e = let z : _≡_ {A = ℕ} 1 0 = cc in absurd (suc-ne-zero 0 z)
+      go (suc k) e = let same : suc k ≡ n = cc in (same, λ z. suc-ne-zero k (same ∙ z))
 
 pub same-fields : (h k : Header) → fields h ≡ fields k → h ≡ k
 unfolding fields
@@ -42,11 +89,3 @@ same-fields h k e =
     let columns : h .columns ≡ k .columns = cc in
     let number : h .number ≡ k .number = cc in
     λ i. record { kind = kind i; modulus = modulus i; host = host i; rows = rows i; columns = columns i; number = number i }
-
-pub told-done : (r : Reading) (h : Header) → told r ≡ done (fields h) → r ≡ Done h
-unfolding fields
-told-done (Done k) h e = ap Done (same-fields k h (ap (λ t. t .values) e))
-told-done (Refused n) h e = absurd (never (ap (λ t. t .values) e))
-  where
-    never : [] ≡ fields h → ⊥
-    never none = let z : _≡_ {A = ℕ} 1 0 = cc in suc-ne-zero 0 z

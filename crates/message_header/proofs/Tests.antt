@@ -1,18 +1,19 @@
--- The tests of a header, one after the other: what the first that fits tells.
+-- The tests of a header, one after the other.
 --
 --   fields-numbered, header-numbered  every test has a number
---   told-short, told-mark ..          the tests of a message's header
+--   past-version                      length, mark and version have passed: the fields decide
 use mathlib.Core.Path.{_≡_, _∙_}
-use mathlib.Core.Bool.{true, false}
+use mathlib.Core.Bool.{false}
 use mathlib.Core.List.{List}
-use Prim.Native.Nat.{ℕ, _<_, _≤_}
+use Prim.Native.Nat.{ℕ, _≤_}
 use lib.Dec.{T}
 use lib.ListN.{length}
-use borrow.Author.Tests.{lt-ltb, le-ltb}
-use Rattle.refusal.specs.Chain.{first}
-use Rattle.refusal.proofs.Chains.{first-hit, first-miss, numbered}
+use borrow.Author.Tests.{le-ltb}
+use Rattle.refusal.specs.Chain.{first, differs}
+use Rattle.refusal.proofs.Chains.{first-miss, numbered}
+use Rattle.message_bytes.specs.Bytes.{numberAt}
 use Rattle.message_header.specs.declared.Header.{Header}
-use Rattle.message_header.specs.Header.{headerOf, fieldTests, markTest, versionTest, headerTests}
+use Rattle.message_header.specs.Header.{mark, version, headerOf, fieldTests, headerTests}
 
 pub fields-numbered : (h : Header) → T (numbered (fieldTests h))
 unfolding fieldTests numbered
@@ -23,20 +24,8 @@ module _ (message : List ℕ) where
   unfolding headerTests fieldTests numbered
   header-numbered = tt
 
-  pub told-short : length message < 16 → first (headerTests message) ≡ 17
+  pub past-version : 16 ≤ length message → differs (numberAt message 0 3) mark ≡ false → differs (numberAt message 3 2) version ≡ false
+      → first (headerTests message) ≡ first (fieldTests (headerOf message))
   unfolding headerTests
-  told-short l = first-hit _ 17 _ (lt-ltb (length message) 16 l)
-
-  module _ (long : 16 ≤ length message) where
-    pub told-mark : markTest message ≡ true → first (headerTests message) ≡ 18
-    unfolding headerTests
-    told-mark e = first-miss _ 17 _ (le-ltb (length message) 16 long) ∙ first-hit _ 18 _ e
-
-    module _ (mark : markTest message ≡ false) where
-      pub told-version : versionTest message ≡ true → first (headerTests message) ≡ 19
-      unfolding headerTests
-      told-version e = first-miss _ 17 _ (le-ltb (length message) 16 long) ∙ first-miss _ 18 _ mark ∙ first-hit _ 19 _ e
-
-      pub told-fields : versionTest message ≡ false → first (headerTests message) ≡ first (fieldTests (headerOf message))
-      unfolding headerTests
-      told-fields e = first-miss _ 17 _ (le-ltb (length message) 16 long) ∙ first-miss _ 18 _ mark ∙ first-miss _ 19 _ e
+  past-version long marked versioned =
+      first-miss _ 17 _ (le-ltb (length message) 16 long) ∙ first-miss _ 18 _ marked ∙ first-miss _ 19 _ versioned

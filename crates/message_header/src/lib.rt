@@ -2,20 +2,12 @@
 ghost use mathlib.Core.Path.{_≡_};
 ghost use lib.ListN.{length};
 ghost use Prim.Native.Nat.{_≤_};
-ghost use Rattle.refusal.specs.Chain.{first};
-ghost use Rattle.message_header.specs.Header.{
-  header,
-  headerOf,
-  kindTest,
-  hostTest,
-  sizeTest,
-  fieldTests,
-  markTest,
-  versionTest,
-  headerRead,
-};
+ghost use Rattle.refusal.specs.Chain.{outside as Chain·outside, differs};
+ghost use Rattle.message_bytes.specs.Bytes.{numberAt};
+ghost use Rattle.message_header.specs.Header.{mark, version, header, headerOf};
+ghost use Rattle.message_header.specs.Contracts.{checked, opened};
+use field::Modulus;
 use field::Named;
-use refusal::either;
 use refusal::outside;
 use words::low_byte;
 use words::pair;
@@ -31,22 +23,28 @@ pub struct Header {
     pub number: u32,
 }
 
-// What reading answers, of a header or of a whole message.
-pub enum Reading {
-    Done(Header),
+// What the tests of the fields return: the modulus that the fields name, or the number of the first test that holds.
+pub enum Checked {
+    Fit(Modulus),
+    Refused(u32),
+}
+
+// What reading a header returns: the fields and the modulus that they name, or the number of the first test that holds.
+pub enum Opened {
+    Fields(Header, Modulus),
     Refused(u32),
 }
 
 // "MDO" as one number.
 const MARK: u32 = 0x4D444F;
 
+// How many bytes a header has.
 pub const HEADER_BYTES: usize = 16;
 
 // The kind is not that of an A share, a B share or an answer.
-fn kind_test(h: Header) -> bool
-    ensures { λ r. ⌜ r ≡ kindTest h ⌝ }
+fn kind_test(kind: u32) -> bool
+    ensures { λ r. ⌜ r ≡ Chain·outside 1 3 kind ⌝ }
 {
-    let kind = h.kind;
     match kind {
         0 => true,
         1..=3 => false,
@@ -54,47 +52,30 @@ fn kind_test(h: Header) -> bool
     }
 }
 
-// The host is out of range.
-fn host_test(h: Header) -> bool
-    ensures { λ r. ⌜ r ≡ hostTest h ⌝ }
-{
-    outside(1, refusal::MOST_HOSTS, h.host)
-}
-
-// Rows or columns are out of range.
-fn size_test(h: Header) -> bool
-    ensures { λ r. ⌜ r ≡ sizeTest h ⌝ }
-{
-    either(
-        outside(1, refusal::MOST_SIDE, h.rows),
-        outside(1, refusal::MOST_SIDE, h.columns),
-    )
-}
-
 // The tests of the fields: 16, 1, 12, 2, 6.
-pub fn field_refusal(h: Header) -> u32
-    ensures { λ r. ⌜ r ≡ first (fieldTests h) ⌝ }
+pub fn check_fields(h: Header) -> Checked
+    ensures { λ r. ⌜ r ≡ checked h ⌝ }
 {
-    if kind_test(h) {
-        return refusal::KIND;
+    if kind_test(h.kind) {
+        return Checked::Refused(refusal::KIND);
     }
-    let Named::Is(_) = field::modulus_named(h.modulus) else {
-        return refusal::MODULUS;
+    let Named::Is(modulus) = field::modulus_named(h.modulus) else {
+        return Checked::Refused(refusal::MODULUS);
     };
-    if host_test(h) {
-        return refusal::HOST;
+    if outside(1, refusal::MOST_HOSTS, h.host) {
+        return Checked::Refused(refusal::HOST);
     }
-    if size_test(h) {
-        return refusal::SIZE;
+    if outside(1, refusal::MOST_SIZE, h.rows) | outside(1, refusal::MOST_SIZE, h.columns) {
+        return Checked::Refused(refusal::SIZE);
     }
-    if refusal::MOST_ELEMENTS < h.rows * h.columns {
-        return refusal::BLOCK;
+    if refusal::too_large(h.rows, h.columns) {
+        return Checked::Refused(refusal::BLOCK);
     }
-    0
+    Checked::Fit(modulus)
 }
 
 // Bytes 0 to 15 of a message with these fields.
-pub fn header_bytes(h: Header) -> [u8; 16]
+pub fn header_bytes(h: Header) -> [u8; HEADER_BYTES]
     ensures { λ r. ⌜ r ≡ header h ⌝ }
 {
     let rows = h.rows;
@@ -138,7 +119,7 @@ fn header_fields(message: &[u8]) -> Header
 // The first three bytes are not the mark.
 fn mark_test(message: &[u8]) -> bool
     requires { ⌜ 16 ≤ length (now message) ⌝ }
-    ensures { λ r. ⌜ r ≡ markTest (now (message .entry)) ⌝ }
+    ensures { λ r. ⌜ r ≡ differs (numberAt (now (message .entry)) 0 3) mark ⌝ }
 {
     word(0, message[0], message[1], message[2]) != MARK
 }
@@ -146,7 +127,7 @@ fn mark_test(message: &[u8]) -> bool
 // The version is not 1.
 fn version_test(message: &[u8]) -> bool
     requires { ⌜ 16 ≤ length (now message) ⌝ }
-    ensures { λ r. ⌜ r ≡ versionTest (now (message .entry)) ⌝ }
+    ensures { λ r. ⌜ r ≡ differs (numberAt (now (message .entry)) 3 2) version ⌝ }
 {
     let version = pair(message[3], message[4]);
     match version {
@@ -155,23 +136,23 @@ fn version_test(message: &[u8]) -> bool
     }
 }
 
-// Reads a message's header: its fields, or the number of the first test that fits.
-pub fn read_header(message: &[u8]) -> Reading
-    ensures { λ r. ⌜ r ≡ headerRead (now (message .entry)) ⌝ }
+// Reads a message's header: its fields and their modulus, or the number of the first test that holds.
+pub fn read_header(message: &[u8]) -> Opened
+    ensures { λ r. ⌜ r ≡ opened (now (message .entry)) ⌝ }
 {
     if message.len() < HEADER_BYTES {
-        return Reading::Refused(refusal::SHORT);
+        return Opened::Refused(refusal::SHORT);
     }
     if mark_test(message) {
-        return Reading::Refused(refusal::MARK);
+        return Opened::Refused(refusal::MARK);
     }
     if version_test(message) {
-        return Reading::Refused(refusal::VERSION);
+        return Opened::Refused(refusal::VERSION);
     }
     let h = header_fields(message);
-    let fields = field_refusal(h);
-    if fields != 0 {
-        return Reading::Refused(fields);
+    let checked = check_fields(h);
+    match checked {
+        Checked::Fit(modulus) => Opened::Fields(h, modulus),
+        Checked::Refused(number) => Opened::Refused(number),
     }
-    Reading::Done(h)
 }

@@ -1,2 +1,3 @@
 -- The host's product on bytes.
 pub mod Host
+pub mod Contracts

@@ -65,4 +65,4 @@ unfolding parameters neededOf
 place-below job f k j hk hj =
     let p : 0 < job .p = f .ranged .p .low in
     let s = job-sound job f in
-    omega (arith, s .meet k 0 j hk p hj, s .below k 0 0 j hk p p hj)
+    omega (arith, s .meet k 0 j hk p hj, s .bounded .below k 0 0 j hk p p hj)

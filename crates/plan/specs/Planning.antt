@@ -69,8 +69,7 @@ unfoldable pub rangeTests : Job → List Test
 rangeTests job =
     (sizesOutside (job .t) (job .s) (job .r), 2)
     ∷ (anyOutside 8 (job .m) (job .p) (job .n), 3)
-    ∷ (outside 1 16 (job .xa) || outside 1 16 (job .xb), 4)
-    ∷ []
+    ∷ (outside 1 16 (job .xa) || outside 1 16 (job .xb), 4) ∷ []
 
 -- m does not divide t, or p s, or n r; a block is too large; N is not 1..64, or over q - 1; K is over N
 unfoldable pub fitTests : Job → List Test
@@ -78,8 +77,7 @@ fitTests job =
     (differs (job .t % job .m) 0 || differs (job .s % job .p) 0 || differs (job .r % job .n) 0, 5)
     ∷ (overBlock (blockRows job) (blockInner job) (blockColumns job), 6)
     ∷ (outside 1 64 (job .hosts) || leb (prime job) (job .hosts), 7)
-    ∷ (ltb (job .hosts) (neededOf job), 8)
-    ∷ []
+    ∷ (ltb (job .hosts) (neededOf job), 8) ∷ []
 
 -- x stands in xs
 unfoldable pub member : ℕ → List ℕ → Bool
@@ -89,9 +87,8 @@ member x (y ∷ ys) = eqb x y || member x ys
 -- 10 and 11 of the point at i: it is 0 or not below q; it equals an earlier one
 unfoldable pub pointTestsAt : ℕ → List ℕ → ℕ → List Test
 pointTestsAt q points i =
-    (eqb (getD points i 0) 0 || leb q (getD points i 0), 10)
-    ∷ (member (getD points i 0) (take i points), 11)
-    ∷ []
+    let x = getD points i 0 in
+    (eqb x 0 || leb q x, 10) ∷ (member x (take i points), 11) ∷ []
 
 -- point by point
 unfoldable pub allPointTests : ℕ → List ℕ → ℕ → List Test

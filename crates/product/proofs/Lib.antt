@@ -1,4 +1,4 @@
--- Laws of the product and of its answers.
+-- Laws of the product and of its outcomes.
 pub mod Examples
 pub mod Rows
 pub mod Outcomes

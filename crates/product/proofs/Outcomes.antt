@@ -1,53 +1,47 @@
--- What a call of the product answers and leaves.
+-- What a call of the product returns and leaves.
 --
---   refused    by a number that is not 0: the output stays
---   done       by 0: the output holds the product
---   ready      what the tests 2, 6, 13 and 14 leave: sizes, lengths and elements
-use mathlib.Core.Path.{_≡_, sym, ap, _∙_}
+--   refused       by a number that is not 0: the output stays
+--   done          by 0: the output holds the product
+--   multiplicable what the tests 2, 6, 13 and 14 leave: sizes, lengths and elements
+use mathlib.Core.Path.{_≡_, sym, _∙_}
 use mathlib.Core.Bool.{false, not, _||_}
 use mathlib.Core.List.{List}
 use Prim.Native.Nat.{ℕ, _*_, _≤_}
 use native.Mathlib.Omega.{arith}
 use native.Mathlib.Nat.{mul-le-mul-right}
-use lib.Dec.{eqb}
 use lib.ListN.{length}
 use borrow.Author.Tests.{not-false}
 use Rattle.algebra.specs.Lists.{allBelow}
 use Rattle.algebra.proofs.Lists.{all-below-test}
 use Rattle.algebra.proofs.Tests.{or-left, or-right, or-all, equal}
-use Rattle.refusal.specs.Chain.{first, outcome}
+use Rattle.refusal.specs.Chain.{first, differs}
 use Rattle.refusal.specs.Limits.{sizesOutside, overBlock}
-use Rattle.refusal.proofs.Chains.{outcome-done, outcome-refused}
+use Rattle.refusal.proofs.Chains.{unless-done, unless-refused}
 use Rattle.refusal.proofs.Limits.{within-all, blocks-fit}
 use Rattle.field.specs.Modulus.{modulus}
-use Rattle.product.specs.Product.{productOf, lengthTest, productTests, productAfter}
-use Rattle.product.specs.Rows.{Ready}
+use Rattle.product.specs.Product.{productOf, productTests, productAfter}
+use Rattle.product.specs.Contracts.{Multiplicable}
 
 module _ (n rows inner columns : ℕ) (a b out : List ℕ) where
-  number : ℕ
-  number = first (productTests n rows inner columns a b (length out))
-
-  block : List ℕ
-  block = productOf (modulus n) rows inner columns a b
-
   pub refused : (k : ℕ) → (k ≡ 0 → ⊥) → first (productTests n rows inner columns a b (length out)) ≡ k
       → (k ≡ first (productTests n rows inner columns a b (length out))) × (out ≡ productAfter n rows inner columns a b out)
-  unfolding productAfter number block
-  refused k ne e =
-      (sym e, sym (ap (λ (r : ℕ). outcome r block (λ s. out)) e ∙ outcome-refused block (λ s. out) k ne))
+  unfolding productAfter
+  refused k ne e = (sym e, sym (unless-refused _ _ out (λ z. ne (sym e ∙ z))))
 
   pub done : first (productTests n rows inner columns a b (length out)) ≡ 0 → (after : List ℕ) → after ≡ productOf (modulus n) rows inner columns a b
       → (0 ≡ first (productTests n rows inner columns a b (length out))) × (after ≡ productAfter n rows inner columns a b out)
-  unfolding productAfter number block
-  done e after is = (sym e, is ∙ sym (outcome-done block (λ s. out) number e))
+  unfolding productAfter
+  done e after is = (sym e, is ∙ sym (unless-done _ _ out e))
 
-pub ready : (q rows inner columns : ℕ) (a b : List ℕ) (room : ℕ) → sizesOutside rows inner columns ≡ false → overBlock rows inner columns ≡ false
-    → lengthTest rows inner columns (length a) (length b) room ≡ false → (not (allBelow q a) || not (allBelow q b)) ≡ false → Ready q rows inner columns a b room
-unfolding sizesOutside lengthTest
-ready q rows inner columns a b room size block len below =
+pub multiplicable : (q rows inner columns : ℕ) (a b : List ℕ) (room : ℕ) → sizesOutside rows inner columns ≡ false → overBlock rows inner columns ≡ false
+    → (differs (length a) (rows * inner) || differs (length b) (inner * columns) || differs room (rows * columns)) ≡ false
+    → (not (allBelow q a) || not (allBelow q b)) ≡ false
+    → Multiplicable q (record { rows = rows; inner = inner; columns = columns }) a b room
+unfolding sizesOutside
+multiplicable q rows inner columns a b room size block len below =
     let sizes = within-all 16384 rows inner columns size in
     let blocks = blocks-fit rows inner columns block in
-    let each = or-all (not (eqb (length a) (rows * inner))) (not (eqb (length b) (inner * columns))) (not (eqb room (rows * columns))) len in
+    let each = or-all (differs (length a) (rows * inner)) (differs (length b) (inner * columns)) (differs room (rows * columns)) len in
     let one-row : 1 * inner ≤ rows * inner = mul-le-mul-right inner (sizes .0 .low) in
     let one-line : 1 * columns ≤ rows * columns = mul-le-mul-right columns (sizes .0 .low) in
     record {

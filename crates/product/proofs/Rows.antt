@@ -19,11 +19,11 @@ use Rattle.algebra.proofs.Grids.{tab-cong, grid-cong}
 use Rattle.algebra.proofs.Sums.{sum-cong}
 use Rattle.field.specs.declared.Modulus.{Modulus}
 use Rattle.field.specs.Modulus.{prime}
-use Rattle.sums.specs.Sums.{zeros, reduced}
-use Rattle.sums_rows.specs.Combination.{combination, added}
+use Rattle.sums.specs.Contracts.{zeros, reduced}
+use Rattle.sums_rows.specs.Contracts.{combination, added}
 use Rattle.sums.proofs.Reduced.{reduced-tab}
 use Rattle.sums_rows.proofs.Exact.{combination-fits, added-zeros}
-use Rattle.sums_packed.specs.Packing.{packed, halves}
+use Rattle.sums_packed.specs.Contracts.{packed, halves}
 use Rattle.sums_packed.proofs.Exact.{dot, halves-exact}
 use Rattle.product.specs.Product.{productEntry, productOf}
 

@@ -4,18 +4,22 @@ ghost use mathlib.Core.Bool.{not, _||_};
 ghost use Prim.Native.Nat.{_*_, _≤_};
 ghost use lib.ListN.{length};
 ghost use Rattle.algebra.specs.Lists.{AllBelow, allBelow};
-ghost use Rattle.refusal.specs.Chain.{first};
+ghost use Rattle.refusal.specs.Chain.{first, differs};
+ghost use Rattle.refusal.specs.Limits.{mostElements};
 ghost use Rattle.field.specs.Modulus.{prime};
-ghost use Rattle.product.specs.Product.{productOf, lengthTest, productTests, productAfter};
-ghost use Rattle.product.specs.Rows.{Ready, AtOnce};
+ghost use Rattle.product.specs.Product.{productOf, productTests, productAfter};
+ghost use Rattle.product.specs.Contracts.{Multiplicable, AtOnce};
 use field::Modulus;
 use field::Named;
-use refusal::either;
 use words::least;
 use words::wide_product;
 
-// The most elements that a block has, and so the most columns.
-const MOST_COLUMNS: usize = 4096;
+// The sizes of a product: rows by inner times inner by columns.
+struct Sizes {
+    rows: usize,
+    inner: usize,
+    columns: usize,
+}
 
 // Up to so many columns, only so many sums are made: to make the most takes longer than a small product.
 const FEW_COLUMNS: usize = 64;
@@ -28,32 +32,25 @@ const MOST_PACKED: usize = 127;
 
 // A buffer is not of exact length.
 fn length_test(rows: u32, inner: u32, columns: u32, a: usize, b: usize, out: usize) -> bool
-    ensures { λ r. ⌜ r ≡ lengthTest rows inner columns a b out ⌝ }
+    ensures { λ r. ⌜ r ≡ (differs a (rows * inner) || differs b (inner * columns) || differs out (rows * columns)) ⌝ }
 {
-    either(
-        either(
-            a as u64 != wide_product(rows, inner),
-            b as u64 != wide_product(inner, columns),
-        ),
-        out as u64 != wide_product(rows, columns),
-    )
+    (a as u64 != wide_product(rows, inner))
+        | (b as u64 != wide_product(inner, columns))
+        | (out as u64 != wide_product(rows, columns))
 }
 
 // An element of a share is not below the prime.
 fn element_test(modulus: Modulus, a: &[u32], b: &[u32]) -> bool
     ensures { λ r. ⌜ r ≡ (not (allBelow (prime modulus) (now (a .entry))) || not (allBelow (prime modulus) (now (b .entry)))) ⌝ }
 {
-    either(
-        !field::all_below(modulus, a),
-        !field::all_below(modulus, b),
-    )
+    !field::all_below(modulus, a) | !field::all_below(modulus, b)
 }
 
 // One row of the product: the elements of A's row are the weights of B's rows. There is a sum for each element of the output.
 fn product_row(modulus: Modulus, row: &[u32], b: &[u32], sums: &mut [u64], out: &mut [u32])
     requires { ⌜ AllBelow (prime modulus) (now row)
         × AllBelow (prime modulus) (now b)
-        × length (now row) ≤ 4096
+        × length (now row) ≤ mostElements
         × length (now sums) ≡ length (now out) ⌝ }
     ensures { λ _. ⌜ now (out .exit)
         ≡ productOf (prime modulus) 1 (length (now (row .entry))) (length (now (out .entry))) (now (row .entry)) (now (b .entry)) ⌝ }
@@ -89,7 +86,7 @@ fn few_rows(
     requires { ⌜ AtOnce (prime modulus) inner count
         × AllBelow (prime modulus) (now part)
         × AllBelow (prime modulus) (now b)
-        × inner ≤ 4096
+        × inner ≤ mostElements
         × length (now part) ≡ count * inner
         × length (now out) ≡ count * length (now sums) ⌝ }
     ensures { λ _. ⌜ now (out .exit)
@@ -111,17 +108,18 @@ fn few_rows(
 // The product of two shares of the right lengths, a few rows at a time. There is a sum for each column.
 fn multiply_rows(
     modulus: Modulus,
-    rows: usize,
-    inner: usize,
-    columns: usize,
+    s: Sizes,
     a: &[u32],
     b: &[u32],
     sums: &mut [u64],
     out: &mut [u32],
 )
-    requires { ⌜ Ready (prime modulus) rows inner columns (now a) (now b) (length (now out)) × length (now sums) ≡ columns ⌝ }
-    ensures { λ _. ⌜ now (out .exit) ≡ productOf (prime modulus) rows inner columns (now (a .entry)) (now (b .entry)) ⌝ }
+    requires { ⌜ Multiplicable (prime modulus) s (now a) (now b) (length (now out)) × length (now sums) ≡ s .columns ⌝ }
+    ensures { λ _. ⌜ now (out .exit) ≡ productOf (prime modulus) (s .rows) (s .inner) (s .columns) (now (a .entry)) (now (b .entry)) ⌝ }
 {
+    let rows = s.rows;
+    let inner = s.inner;
+    let columns = s.columns;
     let step = at_once(modulus, inner);
     let mut i = 0;
     while i < rows {
@@ -144,42 +142,17 @@ fn multiply_rows(
 }
 
 // The product of two shares of the right lengths, with few sums or the most.
-fn multiply(
-    modulus: Modulus,
-    rows: usize,
-    inner: usize,
-    columns: usize,
-    a: &[u32],
-    b: &[u32],
-    out: &mut [u32],
-)
-    requires { ⌜ Ready (prime modulus) rows inner columns (now a) (now b) (length (now out)) ⌝ }
-    ensures { λ _. ⌜ now (out .exit) ≡ productOf (prime modulus) rows inner columns (now (a .entry)) (now (b .entry)) ⌝ }
+fn multiply(modulus: Modulus, s: Sizes, a: &[u32], b: &[u32], out: &mut [u32])
+    requires { ⌜ Multiplicable (prime modulus) s (now a) (now b) (length (now out)) ⌝ }
+    ensures { λ _. ⌜ now (out .exit) ≡ productOf (prime modulus) (s .rows) (s .inner) (s .columns) (now (a .entry)) (now (b .entry)) ⌝ }
 {
+    let columns = s.columns;
     if columns <= FEW_COLUMNS {
         let mut few = [0u64; FEW_COLUMNS];
-        multiply_rows(
-            modulus,
-            rows,
-            inner,
-            columns,
-            a,
-            b,
-            &mut few[..columns],
-            out,
-        );
+        multiply_rows(modulus, s, a, b, &mut few[..columns], out);
     } else {
-        let mut many = [0u64; MOST_COLUMNS];
-        multiply_rows(
-            modulus,
-            rows,
-            inner,
-            columns,
-            a,
-            b,
-            &mut many[..columns],
-            out,
-        );
+        let mut many = [0u64; refusal::MOST_ELEMENTS];
+        multiply_rows(modulus, s, a, b, &mut many[..columns], out);
     }
 }
 
@@ -194,8 +167,10 @@ pub fn product(
     b: &[u32],
     out: &mut [u32],
 ) -> u32
-    ensures number { λ r. ⌜ r ≡ first (productTests modulus rows inner columns (now (a .entry)) (now (b .entry)) (length (now (out .entry)))) ⌝ }
-    ensures block { λ _. ⌜ now (out .exit) ≡ productAfter modulus rows inner columns (now (a .entry)) (now (b .entry)) (now (out .entry)) ⌝ }
+    ensures number { λ r. let xs = now (a .entry) in let ys = now (b .entry) in
+        ⌜ r ≡ first (productTests modulus rows inner columns xs ys (length (now (out .entry)))) ⌝ }
+    ensures block { λ _. let xs = now (a .entry) in let ys = now (b .entry) in
+        ⌜ now (out .exit) ≡ productAfter modulus rows inner columns xs ys (now (out .entry)) ⌝ }
 {
     let Named::Is(named) = field::modulus_named(modulus) else {
         return refusal::MODULUS;
@@ -212,14 +187,11 @@ pub fn product(
     if element_test(named, a, b) {
         return refusal::ELEMENT;
     }
-    multiply(
-        named,
-        rows as usize,
-        inner as usize,
-        columns as usize,
-        a,
-        b,
-        out,
-    );
+    let sizes = Sizes {
+        rows: rows as usize,
+        inner: inner as usize,
+        columns: columns as usize,
+    };
+    multiply(named, sizes, a, b, out);
     0
 }

@@ -20,7 +20,7 @@ use Rattle.algebra.proofs.Grids.{length-grid, entry-grid, below-grid}
 use Rattle.algebra.proofs.Modular.{≈-trans, ≈-of-eq}
 use Rattle.algebra.proofs.Interpolation.{interpolates, recover}
 use Rattle.refusal.specs.Chain.{first}
-use Rattle.refusal.proofs.Chains.{first-clear, outcome-done}
+use Rattle.refusal.proofs.Chains.{first-clear, unless-done}
 use Rattle.field.specs.Modulus.{modulus}
 use Rattle.field.proofs.Moduli.{known-number}
 use Rattle.layout.specs.Exponents.{exponents}
@@ -125,7 +125,7 @@ module _ (job : Job) (points : List ℕ) (heard : ℕ) (store table : List ℕ) 
 
   table-is : tableAfter job points heard store table ≡ tableOf job points heard store
   unfolding tableAfter
-  table-is = outcome-done (tableOf job points heard store) (λ n. table) _ clear
+  table-is = unless-done _ _ table clear
 
   at-place : (k j i v : ℕ) → k < job .m → j < job .n → i < blockRows job → v < blockColumns job
       → entry (job .r) (tableAfter job points heard store table) (k * blockRows job + i) (j * blockColumns job + v)
@@ -191,14 +191,14 @@ module _ (n rows inner columns : ℕ) (a b out : List ℕ) (clear : first (hostT
   on-bytes : elementsOf (rows * columns) (hostAfter n rows inner columns a b out) ≡ product
   unfolding hostAfter hostProduct product productOf
   on-bytes =
-      ap₂ elementsOf (sym (length-grid _ rows columns)) (outcome-done (bytesOf product) (λ r. out) _ clear) ∙ elements-of-bytes product product-small
+      ap₂ elementsOf (sym (length-grid _ rows columns)) (unless-done _ (bytesOf product) out clear) ∙ elements-of-bytes product product-small
 
 pub demand-2 : Demand2
 unfolding shareAfter hostShare shareOf productAfter productOf product
 demand-2 = record {
-  share = λ m job points host xs ms out clear. modulo-grid _ _ _ _ (outcome-done _ (λ r. out) _ clear);
+  share = λ m job points host xs ms out clear. modulo-grid _ _ _ _ (unless-done _ _ out clear);
   needed = needed;
-  product = λ n rows inner columns a b out clear. modulo-grid _ _ _ _ (outcome-done _ (λ r. out) _ clear);
+  product = λ n rows inner columns a b out clear. modulo-grid _ _ _ _ (unless-done _ _ out clear);
   host = λ n rows inner columns a b out clear. modulo-grid _ _ _ _ (on-bytes n rows inner columns a b out clear);
   table = decoded;
   messages = round-trips;

@@ -23,7 +23,7 @@ use Rattle.algebra.proofs.Interpolation.{recover}
 use Rattle.layout.specs.Exponents.{Exponents, exponents}
 use Rattle.layout.specs.Sound.{Sound}
 use Rattle.plan.specs.declared.Job.{Job}
-use Rattle.plan.specs.Planning.{prime, parameters, layoutOf, neededOf, blockRows, blockInner, blockColumns, planOf}
+use Rattle.plan.specs.Planning.{prime, parameters, layoutOf, neededOf, blockRows, blockInner, blockColumns}
 use Rattle.plan.proofs.Facts.{Facts, facts}
 use Rattle.plan.proofs.Sizes.{sizes, job-sound, place-below}
 use Rattle.share_side.specs.declared.Matrix.the-variants.{A, B}
@@ -97,15 +97,15 @@ module _ (x : Task) (f : Facts (x .job) (x .points)) where
       (answers : (h : ℕ) → h < job .hosts → isHeard heard h ≡ true → blockAt (answerLength job) store h ≡ answerBlock x h ma mb) where
     -- the polynomial of the answers' elements at i, v
     cs : ℕ → ℕ → ℕ → ℕ
-    cs i v = coefficients e (planOf job) (x .a) ma (x .b) mb i v
+    cs i v = coefficients e job (x .a) ma (x .b) mb i v
 
     answer-value : (h i v : ℕ) → h < job .hosts → isHeard heard h ≡ true → i < blockRows job → v < blockColumns job
         → ⟨ prime job ⟩ answerEntry job store h i v ≈ ev (tab (cs i v) (e .needed)) (getD (x .points) h 0)
-    unfolding cs answerBlock planOf hostShare point answerOf
+    unfolding cs answerBlock hostShare point answerOf
     answer-value h i v l t hi hv =
         let same : suc h - 1 ≡ h = omega arith in
         ≈-trans (≈-of-eq (block-entry job store h i v hi hv ∙ ap (λ (ws : List ℕ). getD ws (i * blockColumns job + v) 0) (answers h l t)))
-        (≈-trans (answer-is e (planOf job) (x .a) ma (x .b) mb i v layout (point (x .points) (suc h)) hi hv)
+        (≈-trans (answer-is e job (x .a) ma (x .b) mb i v layout (point (x .points) (suc h)) hi hv)
         (≈-of-eq (ap (λ (n : ℕ). ev (tab (cs i v) (e .needed)) (getD (x .points) n 0)) same)))
 
     recovered : (i v d : ℕ) → i < blockRows job → v < blockColumns job
@@ -126,7 +126,7 @@ module _ (x : Task) (f : Facts (x .job) (x .points)) where
         d
 
     table : tableOf job (x .points) heard store ≡ cuts
-    unfolding tableOf tableEntry cuts productOf cs planOf parameters neededOf
+    unfolding tableOf tableEntry cuts productOf cs parameters neededOf
     table =
         blocks-grid (tableEntry job (x .points) heard store)
         (λ u w. productEntry (job .p * blockInner job) (job .n * blockColumns job) (x .a) (x .b) u w % prime job)
@@ -134,7 +134,7 @@ module _ (x : Task) (f : Facts (x .job) (x .points)) where
         (λ k j i v hk hj hi hv.
         recovered i v (e .place k j) hi hv
         ∙ ap (λ (n : ℕ). n % prime job) (getD-tab (cs i v) (e .needed) (e .place k j) 0 (place-below job (f .fits) k j hk hj))
-        ∙ place-is e (planOf job) (x .a) ma (x .b) mb i v layout k j hk hj .same)
+        ∙ place-is e job (x .a) ma (x .b) mb i v layout k j hk hj .same)
 
 pub exact : (x : Task) → Accepted x → (ma mb : List ℕ) (heard : ℕ) (store : List ℕ)
     → neededOf (x .job) ≤ size (isHeard heard) (x .job .hosts)

@@ -18,58 +18,59 @@ use Rattle.algebra.proofs.Sums.{sum-≈, sum-swap, sum-split}
 use Rattle.algebra.proofs.Polynomials.{ev-tab}
 use Rattle.layout.specs.Exponents.{Exponents, term}
 use Rattle.layout.specs.Sound.{Sound}
-use Rattle.plan.specs.declared.Plan.{Plan}
+use Rattle.plan.specs.declared.Job.{Job}
+use Rattle.plan.specs.Planning.{parameters, blockRows, blockInner, blockColumns}
 use Rattle.share_side.specs.declared.Matrix.the-variants.{A, B}
-use Rattle.share_side.specs.Weights.{side}
+use Rattle.share_side.specs.Sides.{side}
 use Rattle.share.specs.Sharing.{blockEntry, maskEntry, shareEntry, shareOf}
 use Rattle.product.specs.Product.{productEntry, productOf}
 use Rattle.promise.proofs.ExactSums.{whole, Expands, expands-sum}
 use Rattle.promise.proofs.ExactPlaces.{valueA, valueB, places, places-expand, places-meet}
 
-unfoldable pub answerOf : ℕ → Exponents → Plan → ℕ → List ℕ → List ℕ → List ℕ → List ℕ → List ℕ
-answerOf q e plan x a ma b mb =
-    productOf q (plan .rows) (plan .inner) (plan .columns) (shareOf q e (side A plan) x a ma) (shareOf q e (side B plan) x b mb)
+unfoldable pub answerOf : ℕ → Exponents → Job → ℕ → List ℕ → List ℕ → List ℕ → List ℕ → List ℕ
+answerOf q e job x a ma b mb =
+    productOf q (blockRows job) (blockInner job) (blockColumns job) (shareOf q e (side A job) x a ma) (shareOf q e (side B job) x b mb)
 
-module _ (e : Exponents) (plan : Plan) (a ma b mb : List ℕ) (i v : ℕ) where
+module _ (e : Exponents) (job : Job) (a ma b mb : List ℕ) (i v : ℕ) where
   -- the polynomial of one product in the sum over u
   product : ℕ → ℕ → ℕ
   product u =
-      places (plan .parameters) e (λ k l. blockEntry (side A plan) a k l i u) (λ y. maskEntry (side A plan) ma y i u)
-      (λ l j. blockEntry (side B plan) b l j u v) (λ y. maskEntry (side B plan) mb y u v)
+      places (parameters job) e (λ k l. blockEntry (side A job) a k l i u) (λ y. maskEntry (side A job) ma y i u)
+      (λ l j. blockEntry (side B job) b l j u v) (λ y. maskEntry (side B job) mb y u v)
 
   pub coefficients : ℕ → ℕ
-  coefficients d = sum (plan .inner) (λ u. product u d)
+  coefficients d = sum (blockInner job) (λ u. product u d)
 
-  module _ {q : ℕ} (s : Sound (plan .parameters) e) where
+  module _ {q : ℕ} (s : Sound (parameters job) e) where
     share-expands : (x u : ℕ)
-        → Expands q (e .needed) x (shareEntry e (side A plan) x a ma i u * shareEntry e (side B plan) x b mb u v) (product u)
-    unfolding product shareEntry side term valueA valueB whole
-    share-expands x u = places-expand (plan .parameters) e _ _ _ _ s
+        → Expands q (e .needed) x (shareEntry e (side A job) x a ma i u * shareEntry e (side B job) x b mb u v) (product u)
+    unfolding product shareEntry side term parameters valueA valueB whole
+    share-expands x u = places-expand (parameters job) e _ _ _ _ s
 
-    pub answer-is : (x : ℕ) → i < plan .rows → v < plan .columns
-        → ⟨ q ⟩ getD (answerOf q e plan x a ma b mb) (i * plan .columns + v) 0 ≈ ev (tab coefficients (e .needed)) x
+    pub answer-is : (x : ℕ) → i < blockRows job → v < blockColumns job
+        → ⟨ q ⟩ getD (answerOf q e job x a ma b mb) (i * blockColumns job + v) 0 ≈ ev (tab coefficients (e .needed)) x
     unfolding answerOf productOf productEntry shareOf coefficients side
     answer-is x hi hv =
-        let left : ℕ → ℕ → ℕ = λ i u. shareEntry e (side A plan) x a ma i u in
-        let right : ℕ → ℕ → ℕ = λ u v. shareEntry e (side B plan) x b mb u v in
-        ≈-trans (≈-of-eq (getD-grid _ (plan .rows) (plan .columns) i v 0 hi hv))
+        let left : ℕ → ℕ → ℕ = λ i u. shareEntry e (side A job) x a ma i u in
+        let right : ℕ → ℕ → ℕ = λ u v. shareEntry e (side B job) x b mb u v in
+        ≈-trans (≈-of-eq (getD-grid _ (blockRows job) (blockColumns job) i v 0 hi hv))
         (≈-trans (≈-mod _)
         (≈-trans
-        (sum-≈ (plan .inner) _ (λ u. left i u * right u v) (λ u hu. ≈-mul
-        (≈-trans (≈-of-eq (entry-grid (λ i u. left i u % q) (plan .rows) (plan .inner) i u hi hu)) (≈-mod (left i u)))
-        (≈-trans (≈-of-eq (entry-grid (λ u v. right u v % q) (plan .inner) (plan .columns) u v hu hv)) (≈-mod (right u v)))))
-        (≈-trans (expands-sum (plan .inner) (λ u. left i u * right u v) product (λ u hu. share-expands x u) .is)
+        (sum-≈ (blockInner job) _ (λ u. left i u * right u v) (λ u hu. ≈-mul
+        (≈-trans (≈-of-eq (entry-grid (λ i u. left i u % q) (blockRows job) (blockInner job) i u hi hu)) (≈-mod (left i u)))
+        (≈-trans (≈-of-eq (entry-grid (λ u v. right u v % q) (blockInner job) (blockColumns job) u v hu hv)) (≈-mod (right u v)))))
+        (≈-trans (expands-sum (blockInner job) (λ u. left i u * right u v) product (λ u hu. share-expands x u) .is)
         (≈-of-eq (sym (ev-tab coefficients (e .needed) x))))))
 
-    pub place-is : (k j : ℕ) → k < plan .parameters .m → j < plan .parameters .n
+    pub place-is : (k j : ℕ) → k < job .m → j < job .n
         → ⟨ q ⟩ coefficients (e .place k j)
-        ≈ productEntry (plan .parameters .p * plan .inner) (plan .parameters .n * plan .columns) a b (k * plan .rows + i) (j * plan .columns + v)
-    unfolding coefficients productEntry product blockEntry side
+        ≈ productEntry (job .p * blockInner job) (job .n * blockColumns job) a b (k * blockRows job + i) (j * blockColumns job + v)
+    unfolding coefficients productEntry product blockEntry side parameters
     place-is k j hk hj =
-        let p : ℕ = plan .parameters .p in
-        let wide : ℕ = p * plan .inner in
-        let f : ℕ → ℕ = λ w. entry wide a (k * plan .rows + i) w * entry (plan .parameters .n * plan .columns) b w (j * plan .columns + v) in
+        let p : ℕ = job .p in
+        let wide : ℕ = p * blockInner job in
+        let f : ℕ → ℕ = λ w. entry wide a (k * blockRows job + i) w * entry (job .n * blockColumns job) b w (j * blockColumns job + v) in
         ≈-trans
-        (sum-≈ (plan .inner) (λ u. product u (e .place k j)) (λ u. sum p (λ l. f (l * plan .inner + u)))
-        (λ u hu. places-meet (plan .parameters) e _ _ _ _ s k j hk hj))
-        (≈-of-eq (sum-swap (plan .inner) p (λ u l. f (l * plan .inner + u)) ∙ sym (sum-split p (plan .inner) f)))
+        (sum-≈ (blockInner job) (λ u. product u (e .place k j)) (λ u. sum p (λ l. f (l * blockInner job + u)))
+        (λ u hu. places-meet (parameters job) e _ _ _ _ s k j hk hj))
+        (≈-of-eq (sum-swap (blockInner job) p (λ u l. f (l * blockInner job + u)) ∙ sym (sum-split p (blockInner job) f)))

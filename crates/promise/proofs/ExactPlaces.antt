@@ -59,8 +59,8 @@ module _ (g : Parameters) (e : Exponents) (a : ℕ → ℕ → ℕ) (ma : ℕ �
         (mul-comm (valueA g e a ma x) w ∙ whole-times (g .m) (g .p) (g .xa) (λ k l. a k l * x ^ e .blockA k l) (λ y. ma y * x ^ e .maskA y) w)
         (expands-whole (g .m) (g .p) (g .xa) (λ k l. w * (a k l * x ^ e .blockA k l)) (λ y. w * (ma y * x ^ e .maskA y))
         (λ k l. row (a k l) (e .blockA k l)) (λ y. row (ma y) (e .maskA y))
-        (λ k l hk hl. row-expands (a k l) (e .blockA k l) (λ h j. s .below k l h j hk hl) (λ y. s .belowB k l y hk hl))
-        (λ y hy. row-expands (ma y) (e .maskA y) (λ l j. s .belowA y l j hy) (λ z. s .belowAB y z hy)))
+        (λ k l hk hl. row-expands (a k l) (e .blockA k l) (λ h j. s .bounded .below k l h j hk hl) (λ y. s .bounded .belowB k l y hk hl))
+        (λ y hy. row-expands (ma y) (e .maskA y) (λ l j. s .bounded .belowA y l j hy) (λ z. s .bounded .belowAB y z hy)))
 
   -- ---- what stands at the place of C(k,j)
 

@@ -1,10 +1,11 @@
 -- Fit arrivals (01, "Arrivals"): what is left of an arrival's tests in an accepted job.
 --
+--   index              the index of the host that a message names
 --   core               the tests of a message, and 22 and 12: those that neither the plan nor the hosts heard play a part in
 --   core-numbered      each of them has a number
 --   fit-core           an arrival is fit where none of these holds
 --   arrival-core       an arrival is judged by these, and by 23
---   FitMessage         what a fit message has: its host's place is below N, and its elements fill a block and are below q
+--   FitMessage         what a fit message has: its host's index is below N, and its elements fill a block and are below q
 --   fit-message        a fit message has it
 use mathlib.Core.Path.{_≡_, refl, sym, ap, ap₂, _∙_, subst}
 use mathlib.Core.Bool.{false, not, _||_}
@@ -30,8 +31,12 @@ use Rattle.message_header.specs.Header.{headerTests, headerOf, elementCount, fi
 use Rattle.message.specs.Format.{elements, elementTest, messageTests}
 use Rattle.arrival_heard.specs.Heard.{isHeard, someAbove}
 use Rattle.arrival.proofs.Outcomes.{message-numbered}
-use Rattle.arrival.specs.Arriving.{answerLength, storeLength, place, foreign, stateTests, ownTests, arrivalTests}
+use Rattle.arrival.specs.Arriving.{answerLength, storeLength, hostIndex, foreign, stateTests, answerTests, arrivalTests}
 use Rattle.promise.specs.Demand3.{Task, Accepted, State, fit}
+
+-- the index of the host that a message names
+abbrev pub index : List ℕ → ℕ
+index message = hostIndex (headerOf message)
 
 -- 22 and 12, 23 aside
 unfoldable pub others : Task → List ℕ → List Test
@@ -53,17 +58,17 @@ module _ (x : Task) (ok : Accepted x) (s : State) (room : length (s .store) ≡ 
   left = (not (eqb (length (s .store)) (storeLength (x .job))), 13) ∷ core x message
 
   rest : List Test
-  rest = stateTests (x .job) (s .heard) (length (s .store)) ++ (messageTests message ++ ownTests (x .job) (s .heard) message)
+  rest = stateTests (x .job) (s .heard) (length (s .store)) ++ (messageTests message ++ answerTests (x .job) (s .heard) (headerOf message))
 
   left-is : except 21 (except 23 rest) ≡ left
-  unfolding rest left core others stateTests ownTests messageTests headerTests fieldTests except
+  unfolding rest left core others stateTests answerTests messageTests headerTests fieldTests except
   left-is = refl
 
   pub fit-core : fit x s message ≡ eqb (first (core x message)) 0
   unfolding fit arrivalTests plan rest left
   fit-core =
       ap (λ (n : ℕ). eqb n 0)
-      (ap (λ (rows : List Test). first (except 21 rows)) (except-append 23 plan rest)
+      (ap (λ (tests : List Test). first (except 21 tests)) (except-append 23 plan rest)
       ∙ ap first (except-append 21 (except 23 plan) (except 23 rest))
       ∙ first-append (except 21 (except 23 plan)) (except 21 (except 23 rest))
       (except-numbered 21 (except 23 plan) (except-numbered 23 plan (plan-numbered (x .job) (x .points))))
@@ -74,17 +79,17 @@ module _ (x : Task) (ok : Accepted x) (s : State) (room : length (s .store) ≡ 
 
   pub arrival-core : s .heard < 2 ^ x .job .hosts
       → first (arrivalTests (x .job) (x .points) (s .heard) (length (s .store)) message)
-      ≡ first (core x message ++ ((isHeard (s .heard) (place message), 23) ∷ []))
-  unfolding arrivalTests stateTests ownTests core others someAbove plan
+      ≡ first (core x message ++ ((isHeard (s .heard) (index message), 23) ∷ []))
+  unfolding arrivalTests stateTests answerTests core others someAbove plan
   arrival-core below =
       first-append plan _ (plan-numbered (x .job) (x .points)) (ok .planned)
       ∙ first-miss _ 21 _ (lt-leb (2 ^ x .job .hosts) (s .heard) below)
       ∙ first-miss _ 13 _ exact
-      ∙ ap first (sym (append-assoc (messageTests message) (others x message) ((isHeard (s .heard) (place message), 23) ∷ [])))
+      ∙ ap first (sym (append-assoc (messageTests message) (others x message) ((isHeard (s .heard) (index message), 23) ∷ [])))
 
 -- the message's tests passed, and 22 and 12
 pub record FitMessage (x : Task) (message : List ℕ) : Type 0 where
-  pub place : place message < x .job .hosts
+  pub index : index message < x .job .hosts
   pub fills : length (elements message) ≡ answerLength (x .job)
   pub below : AllBelow (prime (x .job)) (elements message)
 
@@ -94,7 +99,7 @@ module _ (x : Task) (ok : Accepted x) (message : List ℕ) where
   core-numbered = numbered-append (messageTests message) (others x message) (message-numbered message) (let t : T (numbered (others x message)) = tt in t)
 
   pub fit-message : first (core x message) ≡ 0 → FitMessage x message
-  unfolding core others foreign place answerLength elements elementCount elementTest prime
+  unfolding core others foreign hostIndex answerLength elements elementCount elementTest prime
   fit-message e =
       let job = x .job in
       let h = headerOf message in
@@ -113,7 +118,7 @@ module _ (x : Task) (ok : Accepted x) (message : List ℕ) where
       let same-rows = equal (h .rows) (blockRows job) (or-right (kind || number || modulus) rows four) in
       let same-columns = equal (h .columns) (blockColumns job) (or-right (kind || number || modulus || rows) columns (own .0)) in
       record {
-        place = omega (arith, ltb-false (job .hosts) (h .host) (named .0), facts job (x .points) (ok .planned) .fits .hosts-low);
+        index = omega (arith, ltb-false (job .hosts) (h .host) (named .0), facts job (x .points) (ok .planned) .fits .hosts-low);
         fills = length-elements _ _ ∙ ap₂ _*_ same-rows same-columns;
         below = subst (λ (n : ℕ). AllBelow (Modulus·modulus n) (elements message)) same-modulus (all-below-test _ _ (not-false _ (read .below)));
       }

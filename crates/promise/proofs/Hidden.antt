@@ -17,15 +17,15 @@ use Rattle.algebra.proofs.Sets.{members-has, members-below, members-distinct}
 use Rattle.algebra.proofs.Places.{pointsAt, points-each, points-apart}
 use Rattle.layout.specs.Exponents.{Exponents, exponents, term}
 use Rattle.plan.specs.declared.Job.{Job}
-use Rattle.plan.specs.Planning.{prime, parameters, layoutOf, planOf}
+use Rattle.plan.specs.Planning.{prime, parameters, layoutOf}
 use Rattle.plan.proofs.Facts.{Fits, Facts, facts}
 use Rattle.plan.proofs.Sizes.{job-sound}
 use Rattle.share_side.specs.declared.Matrix.{Matrix}
 use Rattle.share_side.specs.declared.Matrix.the-variants.{A, B}
-use Rattle.share_side.specs.Weights.{side}
+use Rattle.share_side.specs.Sides.{side}
 use Rattle.share.specs.Sharing.{shareOf, point, hostShare}
 use Rattle.message.specs.Format.{messageOf}
-use Rattle.promise.specs.Demand3.{Task, SamePublic, Masks, Privacy, publicNumbers, largest, matrix, headerFor, shareHeader, shareMessage}
+use Rattle.promise.specs.Demand3.{Task, SamePublic, Masks, Privacy, publicNumbers, largest, matrix, headerFor, shareHeader, shareFor, shareMessage}
 use Rattle.promise.proofs.Solvable.{Solvable, solvable-powers}
 use Rattle.promise.proofs.Matching.{MasksFor, Matched, matched}
 
@@ -53,20 +53,20 @@ layoutData : Job → Exponents
 layoutData job = exponents (layoutOf job) (parameters job)
 
 masks-follow : (m : Matrix) (job : Job) → Fits job
-    → (base : ℕ) × ((y : ℕ) → term (layoutData job) (side m (planOf job) .masks) 0 y ≡ base + y)
+    → (base : ℕ) × ((y : ℕ) → term (layoutData job) (side m job .masks) 0 y ≡ base + y)
 unfolding side term layoutData
 masks-follow A job fits = let s = job-sound job fits in (s .firstA, s .masksA)
 masks-follow B job fits = let s = job-sound job fits in (s .firstB, s .masksB)
 
-largest-count : (m : Matrix) (x : Task) → largest m x ≡ side m (planOf (x .job)) .count
-unfolding largest side planOf parameters
+largest-count : (m : Matrix) (x : Task) → largest m x ≡ side m (x .job) .«mask_count»
+unfolding largest side
 largest-count A x = refl
 largest-count B x = refl
 
 -- ---- one job, two matrices
 
 module _ (points : List ℕ) (g : ℕ → Bool) (n : ℕ) where
-  -- the points of a group of the hosts at the places below n
+  -- the points of a group of the hosts whose indices are below n
   groupPoints : List ℕ
   groupPoints = pointsAt points (members g n)
 
@@ -84,29 +84,29 @@ module _ (points : List ℕ) (g : ℕ → Bool) (n : ℕ) where
 
 -- what mask y of a matrix is multiplied by at point k of a group
 maskWeight : Matrix → Job → List ℕ → ℕ → ℕ → ℕ
-maskWeight m job group k y = getD group k 0 ^ term (layoutData job) (side m (planOf job) .masks) 0 y
+maskWeight m job group k y = getD group k 0 ^ term (layoutData job) (side m job .masks) 0 y
 
 module _ (m : Matrix) (job : Job) (points : List ℕ) (known : Facts job points) (g : ℕ → Bool)
-    (small : size g (job .hosts) ≤ side m (planOf job) .count) where
-  group-solvable : Solvable (prime job) (length (groupPoints points g (job .hosts))) (side m (planOf job) .count)
+    (small : size g (job .hosts) ≤ side m job .«mask_count») where
+  group-solvable : Solvable (prime job) (length (groupPoints points g (job .hosts))) (side m job .«mask_count»)
       (maskWeight m job (groupPoints points g (job .hosts)))
   unfolding groupPoints maskWeight
   group-solvable =
-      let places = members g (job .hosts) in
-      let below : AllBelow (length points) places = λ k h. omega (arith, known .points-length, members-below g (job .hosts) k h) in
+      let indices = members g (job .hosts) in
+      let below : AllBelow (length points) indices = λ k h. omega (arith, known .points-length, members-below g (job .hosts) k h) in
       let follow = masks-follow m job (known .fits) in
-      solvable-powers (known .fits .known .is-prime) (pointsAt points places)
-      (points-each points places below (λ x. x < prime job) (known .points-below))
-      (points-each points places below (λ x. 0 < x) (known .points-pos))
-      (points-apart points places below (known .points-distinct) (members-distinct g (job .hosts)))
-      (side m (planOf job) .count) (omega (arith, length-group points g (job .hosts)))
-      (term (layoutData job) (side m (planOf job) .masks) 0) (follow .0) (follow .1)
+      solvable-powers (known .fits .known .is-prime) (pointsAt points indices)
+      (points-each points indices below (λ x. x < prime job) (known .points-below))
+      (points-each points indices below (λ x. 0 < x) (known .points-pos))
+      (points-apart points indices below (known .points-distinct) (members-distinct g (job .hosts)))
+      (side m job .«mask_count») (omega (arith, length-group points g (job .hosts)))
+      (term (layoutData job) (side m job .masks) 0) (follow .0) (follow .1)
 
   module _ (xs ys : List ℕ) where
-    match : Matched (prime job) (layoutData job) (side m (planOf job)) (groupPoints points g (job .hosts)) xs ys
+    match : Matched (prime job) (layoutData job) (side m job) (groupPoints points g (job .hosts)) xs ys
     unfolding maskWeight
     match =
-        matched (layoutData job) (side m (planOf job)) (groupPoints points g (job .hosts)) group-solvable
+        matched (layoutData job) (side m job) (groupPoints points g (job .hosts)) group-solvable
         (omega (arith, known .fits .known .is-prime .above-one)) xs ys
 
     same-host : (ms : List ℕ) (i : ℕ) → i < job .hosts → g i ≡ true
@@ -114,7 +114,7 @@ module _ (m : Matrix) (job : Job) (points : List ℕ) (known : Facts job points)
     unfolding hostShare layoutData
     same-host ms i h t =
         let at = group-has points g (job .hosts) i h t in
-        let share : ℕ → List ℕ → List ℕ → List ℕ = shareOf (prime job) (layoutData job) (side m (planOf job)) in
+        let share : ℕ → List ℕ → List ℕ → List ℕ = shareOf (prime job) (layoutData job) (side m job) in
         subst (λ (x : ℕ). share x xs ms ≡ share x ys (match .partner ms)) (at .2) (match .same ms (at .0) (at .1))
 
 -- ---- two jobs
@@ -122,24 +122,24 @@ module _ (m : Matrix) (job : Job) (points : List ℕ) (known : Facts job points)
 -- a header depends on the numbers alone
 same-header : (m : Matrix) (x y : Task) (i : ℕ) → x .job ≡ y .job → shareHeader m x i ≡ shareHeader m y i
 unfolding shareHeader headerFor
-same-header m x y i e = ap (λ (job : Job). shareHeader m (record { numbers = job; points = []; a = []; b = [] }) i) e
+same-header m x y i e = ap (λ (job : Job). shareHeader m (record { job = job; points = []; a = []; b = [] }) i) e
 
 -- masks for a matrix are masks of its side
-masks-told : (m : Matrix) (x : Task) (job : Job) (ms : List ℕ) → x .job ≡ job → Masks m x ms → MasksFor (prime job) (side m (planOf job)) ms
-masks-told m x job ms e h = subst (λ (job : Job). MasksFor (prime job) (side m (planOf job)) ms) e (h .exact, h .below)
+masks-told : (m : Matrix) (x : Task) (job : Job) (ms : List ℕ) → x .job ≡ job → Masks m x ms → MasksFor (prime job) (side m job) ms
+masks-told m x job ms e h = subst (λ (job : Job). MasksFor (prime job) (side m job) ms) e (h .exact, h .below)
 
-masks-made : (m : Matrix) (x : Task) (job : Job) (ms : List ℕ) → job ≡ x .job → MasksFor (prime job) (side m (planOf job)) ms → Masks m x ms
+masks-made : (m : Matrix) (x : Task) (job : Job) (ms : List ℕ) → job ≡ x .job → MasksFor (prime job) (side m job) ms → Masks m x ms
 masks-made m x job ms e h =
-    let own = subst (λ (job : Job). MasksFor (prime job) (side m (planOf job)) ms) e h in
+    let own = subst (λ (job : Job). MasksFor (prime job) (side m job) ms) e h in
     record { exact = own .0; below = own .1 }
 
 pub hidden : Privacy
-unfolding shareMessage
+unfolding shareMessage shareFor
 hidden m x y ax ay same g small =
     let job : Job = x .job in
     let jobs = same-numbers x y same in
     let known = facts job (x .points) (ax .planned) in
-    let few : size g (job .hosts) ≤ side m (planOf job) .count = omega (arith, largest-count m x) in
+    let few : size g (job .hosts) ≤ side m job .«mask_count» = omega (arith, largest-count m x) in
     let pair = match m job (x .points) known g few (matrix m x) (matrix m y) in
     record {
       partner = pair .partner;

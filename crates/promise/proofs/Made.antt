@@ -25,29 +25,28 @@ use Rattle.algebra.proofs.Grids.{length-grid, below-grid}
 use Rattle.refusal.specs.Chain.{Test, first, outside}
 use Rattle.field.specs.Modulus.{noModulus}
 use Rattle.refusal.specs.Limits.{anyOutside, sizesOutside, overBlock}
-use Rattle.refusal.proofs.Chains.{first-none, first-miss, outcome-done, inside}
+use Rattle.refusal.proofs.Chains.{first-none, first-miss, outcome-done, unless-done, inside}
 use Rattle.refusal.proofs.Limits.{Within}
-use Rattle.plan.specs.Planning.{prime, parameters, blockRows, blockInner, blockColumns, planOf}
+use Rattle.plan.specs.Planning.{prime, blockRows, blockInner, blockColumns}
 use Rattle.plan.proofs.Facts.{Fits, facts}
 use Rattle.plan.proofs.Sizes.{Sizes, sizes}
 use Rattle.plan.proofs.Outcomes.{plan-told}
 use Rattle.plan.proofs.Then.{then-own}
 use Rattle.share_side.specs.declared.Matrix.{Matrix}
 use Rattle.share_side.specs.declared.Matrix.the-variants.{A, B}
-use Rattle.share_side.specs.Weights.{side}
-use Rattle.share_blocks.specs.Encoding.{blockLength, matrixLength, maskLength, lengthTest as Encoding·lengthTest}
-use Rattle.share.specs.Sharing.{shareOf, hostShare, ownTests, shareTests, shareAfter}
-use Rattle.product.specs.Product.{productOf, lengthTest, productTests, productAfter}
+use Rattle.share_side.specs.Sides.{side, blockLength, matrixLength, maskLength, matrixTests}
+use Rattle.share.specs.Sharing.{shareOf, hostShare, shareTests, shareAfter}
+use Rattle.product.specs.Product.{productOf, productTests, productAfter}
 use Rattle.message_header.specs.declared.Header.{Header}
 use Rattle.message_bytes.specs.Bytes.{bytesOf, elementsOf}
 use Rattle.message_bytes.proofs.Bytes.{length-bytesOf, elements-of-bytes}
-use Rattle.mukerihe.specs.Host.{byteLengthTest, hostTests, hostProduct, hostAfter}
+use Rattle.mukerihe.specs.Host.{hostTests, hostProduct, hostAfter}
 use Rattle.message_header.proofs.Headers.{length-header}
-use Rattle.message_header.specs.Header.{header, elementCount, kindTest, hostTest, sizeTest, blockTest, fieldTests}
+use Rattle.message_header.specs.Header.{header, elementCount, fieldTests}
 use Rattle.message.specs.Format.{messageOf, payload, elementTest, writeTests, written}
 use Rattle.message.proofs.Fields.{writes}
 use Rattle.message.proofs.Outcomes.{written-done}
-use Rattle.promise.specs.Demand3.{Task, Accepted, Masks, Made, matrix, kindOf, headerFor, shareHeader, answerHeader, shareMessage, trueProduct}
+use Rattle.promise.specs.Demand3.{Task, Accepted, Masks, Made, matrix, kindOf, headerFor, shareHeader, answerHeader, shareFor, shareMessage, trueProduct}
 
 -- a size of a block is one of a matrix
 in-size : {n : ℕ} → Within 4096 n → Within 16384 n
@@ -59,7 +58,7 @@ in-range {most} {n} w = inside 1 most n (w .low) (w .high)
 
 pub fields-pass : (h : Header) → Within 3 (h .kind) → noModulus (h .modulus) ≡ false → Within 64 (h .host) → Within 16384 (h .rows)
     → Within 16384 (h .columns) → elementCount h ≤ 4096 → first (fieldTests h) ≡ 0
-unfolding fieldTests kindTest hostTest sizeTest blockTest
+unfolding fieldTests
 fields-pass h kind known host rows columns count =
     first-miss _ 16 _ (in-range kind)
     ∙ first-miss _ 1 _ known
@@ -86,8 +85,8 @@ module _ (x : Task) (ok : Accepted x) (i : ℕ) (low : i < x .job .hosts) where
   host = record { low = omega arith; high = omega (arith, fits .hosts-high) }
 
   -- the sides' matrices are of exact length, with elements below q
-  exact : (m : Matrix) → length (matrix m x) ≡ matrixLength (side m (planOf (x .job)))
-  unfolding matrix matrixLength blockLength side planOf parameters
+  exact : (m : Matrix) → length (matrix m x) ≡ matrixLength (side m (x .job))
+  unfolding matrix matrixLength blockLength side
   exact A =
       let z = size in
       ok .length-a ∙ ap₂ _*_ (z .t) (z .s) ∙ (let e : x .job .m * blockRows (x .job) * (x .job .p * blockInner (x .job)) ≡ x .job .m * x .job .p * (blockRows (x .job) * blockInner (x .job)) = omega arith in e)
@@ -100,11 +99,11 @@ module _ (x : Task) (ok : Accepted x) (i : ℕ) (low : i < x .job .hosts) where
   below A = ok .below-a
   below B = ok .below-b
 
-  pub share-done : (m : Matrix) (ms out : List ℕ) → Masks m x ms → length out ≡ blockLength (side m (planOf (x .job)))
+  pub share-done : (m : Matrix) (ms out : List ℕ) → Masks m x ms → length out ≡ blockLength (side m (x .job))
       → first (shareTests m (x .job) (x .points) (suc i) (matrix m x) ms (length out)) ≡ 0
-  unfolding shareTests ownTests Encoding·lengthTest q
+  unfolding shareTests matrixTests q
   share-done m ms out masks room =
-      let s = side m (planOf (x .job)) in
+      let s = side m (x .job) in
       then-own (x .job) (x .points) _ (ok .planned)
       ∙ first-miss _ 12 _ (inside 1 (x .job .hosts) (suc i) (omega arith) (omega arith))
       ∙ first-miss _ 13 _
@@ -114,36 +113,33 @@ module _ (x : Task) (ok : Accepted x) (i : ℕ) (low : i < x .job .hosts) where
       ∙ first-miss _ 15 _ (ap not (below-test q ms (masks .below)))
       ∙ first-none
 
-  unfoldable pub share : (m : Matrix) → List ℕ → List ℕ
-  share m ms = hostShare m (x .job) (x .points) (suc i) (matrix m x) ms
-
-  pub share-length : (m : Matrix) (ms : List ℕ) → length (hostShare m (x .job) (x .points) (suc i) (matrix m x) ms) ≡ blockLength (side m (planOf (x .job)))
-  unfolding hostShare shareOf blockLength
+  pub share-length : (m : Matrix) (ms : List ℕ) → length (shareFor m x (suc i) ms) ≡ blockLength (side m (x .job))
+  unfolding shareFor hostShare shareOf blockLength
   share-length m ms = length-grid _ _ _
 
-  pub share-below : (m : Matrix) (ms : List ℕ) → AllBelow (prime (x .job)) (hostShare m (x .job) (x .points) (suc i) (matrix m x) ms)
-  unfolding hostShare shareOf q
+  pub share-below : (m : Matrix) (ms : List ℕ) → AllBelow (prime (x .job)) (shareFor m x (suc i) ms)
+  unfolding shareFor hostShare shareOf q
   share-below m ms = below-grid _ _ _ _ (λ k l. mod-lt _ positive)
 
   -- what sharing leaves
-  shared : (m : Matrix) (ms out : List ℕ) → Masks m x ms → length out ≡ blockLength (side m (planOf (x .job)))
-      → shareAfter m (x .job) (x .points) (suc i) (matrix m x) ms out ≡ share m ms
-  unfolding shareAfter share
-  shared m ms out masks room = outcome-done (share m ms) (λ r. out) _ (share-done m ms out masks room)
+  shared : (m : Matrix) (ms out : List ℕ) → Masks m x ms → length out ≡ blockLength (side m (x .job))
+      → shareAfter m (x .job) (x .points) (suc i) (matrix m x) ms out ≡ shareFor m x (suc i) ms
+  unfolding shareAfter shareFor
+  shared m ms out masks room = unless-done _ _ out (share-done m ms out masks room)
 
   -- a block of a side is not empty, and not over 4096
-  side-rows : (m : Matrix) → Within 16384 (side m (planOf (x .job)) .rows)
-  unfolding side planOf
+  side-rows : (m : Matrix) → Within 16384 (side m (x .job) .«block_rows»)
+  unfolding side
   side-rows A = in-size (size .rows)
   side-rows B = in-size (size .inner)
 
-  side-columns : (m : Matrix) → Within 16384 (side m (planOf (x .job)) .columns)
-  unfolding side planOf
+  side-columns : (m : Matrix) → Within 16384 (side m (x .job) .«block_columns»)
+  unfolding side
   side-columns A = in-size (size .inner)
   side-columns B = in-size (size .columns)
 
-  side-block : (m : Matrix) → blockLength (side m (planOf (x .job))) ≤ 4096
-  unfolding side planOf blockLength
+  side-block : (m : Matrix) → blockLength (side m (x .job)) ≤ 4096
+  unfolding side blockLength
   side-block A = fits .block-a
   side-block B = fits .block-b
 
@@ -153,7 +149,7 @@ module _ (x : Task) (ok : Accepted x) (i : ℕ) (low : i < x .job .hosts) where
   kind B = record { low = omega arith; high = omega arith }
 
   pub share-written : (m : Matrix) (ms : List ℕ) (room : ℕ) → room ≡ 16 + 4 * elementCount (shareHeader m x (suc i))
-      → first (writeTests (shareHeader m x (suc i)) (hostShare m (x .job) (x .points) (suc i) (matrix m x) ms) room) ≡ 0
+      → first (writeTests (shareHeader m x (suc i)) (shareFor m x (suc i) ms) room) ≡ 0
   unfolding shareHeader headerFor elementCount blockLength elementTest prime
   share-written m ms room e =
       writes (shareHeader m x (suc i)) _ room (record {
@@ -164,14 +160,14 @@ module _ (x : Task) (ok : Accepted x) (i : ℕ) (low : i < x .job .hosts) where
       })
 
   -- the numbers of the product are those of an accepted job
-  numbers-pass : (rows : List Test) → let job = x .job in
+  numbers-pass : (tests : List Test) → let job = x .job in
       first ((noModulus (job .modulus), 1)
       ∷ (sizesOutside (blockRows job) (blockInner job) (blockColumns job), 2)
       ∷ (overBlock (blockRows job) (blockInner job) (blockColumns job), 6)
-      ∷ rows)
-      ≡ first rows
+      ∷ tests)
+      ≡ first tests
   unfolding sizesOutside anyOutside overBlock
-  numbers-pass rows =
+  numbers-pass tests =
       let z = size in
       first-miss _ 1 _ (fits .known .is-number)
       ∙ first-miss _ 2 _ (ap₂ _||_ (ap₂ _||_ (in-range (in-size (z .rows))) (in-range (in-size (z .inner)))) (in-range (in-size (z .columns))))
@@ -179,7 +175,7 @@ module _ (x : Task) (ok : Accepted x) (i : ℕ) (low : i < x .job .hosts) where
 
   module _ (ma mb : List ℕ) where
     unfoldable pub answer : List ℕ
-    answer = productOf (prime (x .job)) (blockRows (x .job)) (blockInner (x .job)) (blockColumns (x .job)) (share A ma) (share B mb)
+    answer = productOf (prime (x .job)) (blockRows (x .job)) (blockInner (x .job)) (blockColumns (x .job)) (shareFor A x (suc i) ma) (shareFor B x (suc i) mb)
 
     answer-length : length answer ≡ blockRows (x .job) * blockColumns (x .job)
     unfolding answer productOf
@@ -190,8 +186,8 @@ module _ (x : Task) (ok : Accepted x) (i : ℕ) (low : i < x .job .hosts) where
     answer-below = below-grid _ _ _ _ (λ k l. mod-lt _ positive)
 
     product-done : (out : List ℕ) → length out ≡ blockRows (x .job) * blockColumns (x .job)
-        → first (productTests (x .job .modulus) (blockRows (x .job)) (blockInner (x .job)) (blockColumns (x .job)) (share A ma) (share B mb) (length out)) ≡ 0
-    unfolding productTests lengthTest share blockLength side planOf prime
+        → first (productTests (x .job .modulus) (blockRows (x .job)) (blockInner (x .job)) (blockColumns (x .job)) (shareFor A x (suc i) ma) (shareFor B x (suc i) mb) (length out)) ≡ 0
+    unfolding productTests blockLength side prime
     product-done out room =
         numbers-pass _
         ∙ first-miss _ 13 _ (ap₂ _||_ (ap₂ _||_ (alike _ _ (share-length A ma)) (alike _ _ (share-length B mb))) (alike (length out) _ room))
@@ -199,9 +195,9 @@ module _ (x : Task) (ok : Accepted x) (i : ℕ) (low : i < x .job .hosts) where
         ∙ first-none
 
     multiplied : (out : List ℕ) → length out ≡ blockRows (x .job) * blockColumns (x .job)
-        → productAfter (x .job .modulus) (blockRows (x .job)) (blockInner (x .job)) (blockColumns (x .job)) (share A ma) (share B mb) out ≡ answer
+        → productAfter (x .job .modulus) (blockRows (x .job)) (blockInner (x .job)) (blockColumns (x .job)) (shareFor A x (suc i) ma) (shareFor B x (suc i) mb) out ≡ answer
     unfolding productAfter answer prime
-    multiplied out room = outcome-done answer (λ r. out) _ (product-done out room)
+    multiplied out room = unless-done _ _ out (product-done out room)
 
     pub answer-written : (room : ℕ) → room ≡ 16 + 4 * elementCount (answerHeader x (suc i))
         → first (writeTests (answerHeader x (suc i)) answer room) ≡ 0
@@ -216,24 +212,24 @@ module _ (x : Task) (ok : Accepted x) (i : ℕ) (low : i < x .job .hosts) where
 
     -- the bytes of the two shares
     bytes : (m : Matrix) → List ℕ → List ℕ
-    bytes m ms = bytesOf (share m ms)
+    bytes m ms = bytesOf (shareFor m x (suc i) ms)
 
     payload-is : (m : Matrix) (ms : List ℕ) → payload (shareMessage m x (suc i) ms) ≡ bytes m ms
-    unfolding payload shareMessage messageOf bytes share
+    unfolding payload shareMessage messageOf bytes
     payload-is m ms = drop-at (header (shareHeader m x (suc i))) _ 16 (length-header _)
 
-    elements-are : (m : Matrix) (ms : List ℕ) (n : ℕ) → n ≡ blockLength (side m (planOf (x .job))) → elementsOf n (bytes m ms) ≡ share m ms
-    unfolding bytes share
+    elements-are : (m : Matrix) (ms : List ℕ) (n : ℕ) → n ≡ blockLength (side m (x .job)) → elementsOf n (bytes m ms) ≡ shareFor m x (suc i) ms
+    unfolding bytes
     elements-are m ms n e =
         ap (λ (k : ℕ). elementsOf k (bytes m ms)) (e ∙ sym (share-length m ms))
-        ∙ elements-of-bytes (share m ms) (λ k l. omega (arith, share-below m ms k l, fits .known .small))
+        ∙ elements-of-bytes (shareFor m x (suc i) ms) (λ k l. omega (arith, share-below m ms k l, fits .known .small))
 
     host-done : (out : List ℕ) → length out ≡ 4 * elementCount (answerHeader x (suc i))
         → first (hostTests (x .job .modulus) (blockRows (x .job)) (blockInner (x .job)) (blockColumns (x .job)) (bytes A ma) (bytes B mb) (length out)) ≡ 0
-    unfolding hostTests byteLengthTest bytes share blockLength side planOf prime answerHeader headerFor elementCount q
+    unfolding hostTests bytes blockLength side prime answerHeader headerFor elementCount q
     host-done out room =
-        let a = length-bytesOf (share A ma) ∙ ap (λ (n : ℕ). 4 * n) (share-length A ma) in
-        let b = length-bytesOf (share B mb) ∙ ap (λ (n : ℕ). 4 * n) (share-length B mb) in
+        let a = length-bytesOf (shareFor A x (suc i) ma) ∙ ap (λ (n : ℕ). 4 * n) (share-length A ma) in
+        let b = length-bytesOf (shareFor B x (suc i) mb) ∙ ap (λ (n : ℕ). 4 * n) (share-length B mb) in
         numbers-pass _
         ∙ first-miss _ 13 _ (ap₂ _||_ (ap₂ _||_ (alike _ _ a) (alike _ _ b)) (alike (length out) _ room))
         ∙ first-miss _ 14 _
@@ -243,24 +239,22 @@ module _ (x : Task) (ok : Accepted x) (i : ℕ) (low : i < x .job .hosts) where
 
     host-made : (out : List ℕ) → length out ≡ 4 * elementCount (answerHeader x (suc i))
         → hostAfter (x .job .modulus) (blockRows (x .job)) (blockInner (x .job)) (blockColumns (x .job)) (bytes A ma) (bytes B mb) out ≡ bytesOf answer
-    unfolding hostAfter hostProduct answer blockLength side planOf prime q
+    unfolding hostAfter hostProduct answer blockLength side prime q
     host-made out room =
-        outcome-done _ (λ r. out) _ (host-done out room)
+        unless-done _ _ out (host-done out room)
         ∙ ap bytesOf (ap₂ (productOf q (blockRows (x .job)) (blockInner (x .job)) (blockColumns (x .job))) (elements-are A ma _ refl) (elements-are B mb _ refl))
 
     pub made : Masks A x ma → Masks B x mb → Made x (suc i) ma mb
-    unfolding shareMessage trueProduct answer share matrix payload messageOf
+    unfolding shareMessage trueProduct answer shareFor matrix payload messageOf
     made masks-a masks-b =
         record {
           plan = plan-told (x .job) (x .points) ∙ outcome-done _ _ _ (ok .planned);
-          share = λ m ms out message masks room whole.
-              let is = shared m ms out masks room in
-              ap (λ (xs : List ℕ). written (shareHeader m x (suc i)) xs message) is
-              ∙ written-done (shareHeader m x (suc i)) (share m ms) message (share-written m ms (length message) whole);
-          product = λ out-a out-b out message room-a room-b room whole.
-              ap (λ (xs : List ℕ). written (answerHeader x (suc i)) xs message)
-              (ap₂ (λ (xs ys : List ℕ). productAfter (x .job .modulus) (blockRows (x .job)) (blockInner (x .job)) (blockColumns (x .job)) xs ys out) (shared A ma out-a masks-a room-a) (shared B mb out-b masks-b room-b)
-              ∙ multiplied out room)
+          share = λ m ms out message masks room whole. (
+            shared m ms out masks room,
+            written-done (shareHeader m x (suc i)) (shareFor m x (suc i) ms) message (share-written m ms (length message) whole),
+          );
+          product = λ out message room whole.
+              ap (λ (xs : List ℕ). written (answerHeader x (suc i)) xs message) (multiplied out room)
               ∙ written-done (answerHeader x (suc i)) answer message (answer-written (length message) whole);
           host = λ out room.
               ap₂ (λ (xs ys : List ℕ). hostAfter (x .job .modulus) (blockRows (x .job)) (blockInner (x .job)) (blockColumns (x .job)) xs ys out) (payload-is A ma) (payload-is B mb)

@@ -25,7 +25,7 @@ use Rattle.algebra.proofs.Sums.{sum-≈, sum-add}
 use Rattle.algebra.proofs.Grids.{grid-cong}
 use Rattle.layout.specs.Exponents.{Exponents, term}
 use Rattle.share_side.specs.declared.Side.{Side}
-use Rattle.share_blocks.specs.Encoding.{blockLength, maskLength}
+use Rattle.share_side.specs.Sides.{blockLength, maskLength}
 use Rattle.share.specs.Sharing.{blockEntry, maskEntry, shareEntry, shareOf}
 use Rattle.promise.proofs.Solvable.{Solvable}
 
@@ -133,14 +133,14 @@ pub record Matched (q : ℕ) (e : Exponents) (s : Side) (group xs ys : List ℕ)
       → shareOf q e s (getD group k 0) xs ms ≡ shareOf q e s (getD group k 0) ys (partner ms)
 
 module _ {q : ℕ} (e : Exponents) (s : Side) (group : List ℕ)
-    (solvable : Solvable q (length group) (s .count) (λ k y. getD group k 0 ^ term e (s .masks) 0 y)) (pos : 0 < q) (xs ys : List ℕ) where
+    (solvable : Solvable q (length group) (s .«mask_count») (λ k y. getD group k 0 ^ term e (s .masks) 0 y)) (pos : 0 < q) (xs ys : List ℕ) where
   -- what the blocks of a matrix give to host k of the group at element i, j
   blocks : List ℕ → ℕ → ℕ → ℕ → ℕ
-  blocks zs k i j = sum (s .down) (λ a. sum (s .across) (λ b. blockEntry s zs a b i j * getD group k 0 ^ term e (s .blocks) a b))
+  blocks zs k i j = sum (s .«grid_rows») (λ a. sum (s .«grid_columns») (λ b. blockEntry s zs a b i j * getD group k 0 ^ term e (s .blocks) a b))
 
   -- what a partner has more at a place
   more : ℕ → ℕ
-  more = shift solvable pos (s .rows) (s .columns) (blocks xs) (blocks ys)
+  more = shift solvable pos (s .«block_rows») (s .«block_columns») (blocks xs) (blocks ys)
 
   -- what is added to take it off again
   less : ℕ → ℕ
@@ -148,15 +148,15 @@ module _ {q : ℕ} (e : Exponents) (s : Side) (group : List ℕ)
 
   whole : (t : ℕ) → more t + less t ≡ q
   unfolding more less
-  whole t = omega (arith, shift-below solvable pos (s .rows) (s .columns) (blocks xs) (blocks ys) t)
+  whole t = omega (arith, shift-below solvable pos (s .«block_rows») (s .«block_columns») (blocks xs) (blocks ys) t)
 
   same-share : (ms : List ℕ) (k : ℕ) → k < length group
       → shareOf q e s (getD group k 0) xs ms ≡ shareOf q e s (getD group k 0) ys (moved q (maskLength s) more ms)
   unfolding shareOf shareEntry maskEntry maskLength blockLength blocks more
   same-share ms k h =
       grid-cong (λ i j. shareEntry e s (getD group k 0) xs ms i j % q)
-      (λ i j. shareEntry e s (getD group k 0) ys (moved q (maskLength s) more ms) i j % q) (s .rows) (s .columns)
-      (λ i j hi hj. same-sums solvable pos (s .rows) (s .columns) (blocks xs) (blocks ys) ms k i j h hi hj .same)
+      (λ i j. shareEntry e s (getD group k 0) ys (moved q (maskLength s) more ms) i j % q) (s .«block_rows») (s .«block_columns»)
+      (λ i j hi hj. same-sums solvable pos (s .«block_rows») (s .«block_columns») (blocks xs) (blocks ys) ms k i j h hi hj .same)
 
   pub matched : Matched q e s group xs ys
   matched = record {

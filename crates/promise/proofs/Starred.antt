@@ -12,17 +12,15 @@ use lib.Dec.{T, eqb, eqb→eq}
 use Rattle.algebra.proofs.Tests.{and-left, and-right}
 use Rattle.algebra.specs.Lists.{tab, grid, entry, allBelow}
 use Rattle.algebra.specs.Sums.{sum}
-use Rattle.refusal.specs.Chain.{first, outcome, outside}
+use Rattle.refusal.specs.Chain.{first, outcome, unlessRefused, outside}
 use Rattle.refusal.specs.Limits.{anyOutside, sizesOutside, overBlock}
 use Rattle.field.specs.Modulus.{moduli, modulus, noModulus, named}
 use Rattle.layout.specs.Exponents.{exponents, layout1, layout2, strideD, strideE, better, choice, term}
 use Rattle.plan.specs.Planning.{parameters, prime, modulusOf, blockRows, blockInner, blockColumns, layoutOf, neededOf, planOf}
-use Rattle.plan.specs.Planning.{sizeTest, cutTest, groupTest, divisionTest, blockTest, hostsTest, neededTest, rangeTests, fitTests}
-use Rattle.plan.specs.Planning.{member, pointTestsAt, allPointTests, pointTests, planTests, planned}
-use Rattle.product.specs.Product.{productEntry, productOf, lengthTest, productTests, productAfter}
-use Rattle.share_side.specs.Weights.{side}
-use Rattle.share_blocks.specs.Encoding.{blockLength, matrixLength, maskLength, lengthTest as Encoding·lengthTest}
-use Rattle.share.specs.Sharing.{blockEntry, maskEntry, shareEntry, shareOf, point, hostShare, ownTests, shareTests, shareAfter}
+use Rattle.plan.specs.Planning.{rangeTests, fitTests, member, pointTestsAt, allPointTests, pointTests, planTests, planned}
+use Rattle.product.specs.Product.{productEntry, productOf, productTests, productAfter}
+use Rattle.share_side.specs.Sides.{side, blockLength, matrixLength, maskLength, matrixTests}
+use Rattle.share.specs.Sharing.{blockEntry, maskEntry, shareEntry, shareOf, point, hostShare, shareTests, shareAfter}
 use lib.Count.{ones, onesIn}
 use Rattle.algebra.specs.Lists.{stack}
 use Rattle.algebra.specs.Sets.{members}
@@ -30,7 +28,7 @@ use Rattle.algebra.specs.Modular.{last, inverse}
 use Rattle.algebra.specs.Polynomials.{scale, add, addRoot, basis, coefficient}
 use Rattle.arrival_heard.specs.Heard.{isHeard, someAbove, lowest}
 use Rattle.arrival.specs.Arriving.{answerLength, storeLength, blockAt}
-use Rattle.decode.specs.Decoding.{answerEntry, chosen, tableEntry, blocks, tableOf, tableLength, heardBelow, decodeTests, tableAfter}
+use Rattle.decode.specs.Decoding.{answerEntry, chosen, tableEntry, blocks, tableOf, tableLength, heardBelow, tableTests, decodeTests, tableAfter}
 use Rattle.field_signed.specs.Signed.{half, signed, signedTests, signedOutcome, signedTold}
 use Rattle.promise.specs.Starred.{Line, Right, starred, plan, thresholds, smallest, share, decoded, signs, reading, jobWith}
 use Rattle.promise.specs.Starred.{answer as Starred·answer}
@@ -61,7 +59,7 @@ all-right (l ∷ ls) t (suc i) h = all-right ls (and-right (same (l .0) (l .1)) 
 
 -- the planning definitions, opened to compute
 computed : T (right starred)
-unfolding right same starred plan thresholds smallest jobWith tab first outcome outside anyOutside sizesOutside overBlock moduli modulus noModulus named exponents layout1 layout2 strideD strideE better choice parameters prime modulusOf blockRows blockInner blockColumns layoutOf neededOf planOf sizeTest cutTest groupTest divisionTest blockTest hostsTest neededTest rangeTests fitTests member pointTestsAt allPointTests pointTests planTests planned sum grid entry allBelow term productEntry productOf lengthTest productTests productAfter side blockEntry maskEntry shareEntry shareOf point hostShare blockLength matrixLength maskLength Encoding·lengthTest ownTests shareTests shareAfter share Starred·answer decoded signs reading stack members basis scale add addRoot coefficient inverse last ones onesIn isHeard someAbove lowest answerLength storeLength blockAt answerEntry chosen tableEntry blocks tableOf tableLength heardBelow decodeTests tableAfter half signed signedTests signedOutcome signedTold
+unfolding right same starred plan thresholds smallest jobWith tab first outcome unlessRefused outside anyOutside sizesOutside overBlock moduli modulus noModulus named exponents layout1 layout2 strideD strideE better choice parameters prime modulusOf blockRows blockInner blockColumns layoutOf neededOf planOf rangeTests fitTests member pointTestsAt allPointTests pointTests planTests planned sum grid entry allBelow term productEntry productOf productTests productAfter side blockEntry maskEntry shareEntry shareOf point hostShare blockLength matrixLength maskLength matrixTests shareTests shareAfter share Starred·answer decoded signs reading stack members basis scale add addRoot coefficient inverse last ones onesIn isHeard someAbove lowest answerLength storeLength blockAt answerEntry chosen tableEntry blocks tableOf tableLength heardBelow tableTests decodeTests tableAfter half signed signedTests signedOutcome signedTold
 computed = tt
 
 pub starred-right : Right starred

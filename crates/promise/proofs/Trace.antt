@@ -18,16 +18,16 @@ use lib.ListN.{length, getD}
 use borrow.Author.Tests.{eqb-true, eqb-false, eq-eqb}
 use Rattle.algebra.specs.Lists.{AllBelow}
 use Rattle.algebra.proofs.Tests.{by-test, or-true, or-false, or-assoc}
-use Rattle.refusal.specs.Chain.{first, outcome}
+use Rattle.refusal.specs.Chain.{first, outcome, unlessRefused}
 use Rattle.refusal.proofs.Chains.{first-none, first-hit, first-miss, first-append, first-append-hit}
 use Rattle.plan.specs.Planning.{prime}
 use Rattle.message.specs.Format.{elements}
-use Rattle.arrival_heard.specs.Heard.{isHeard, withPlace}
+use Rattle.arrival_heard.specs.Heard.{isHeard, withHost}
 use Rattle.arrival_heard.proofs.Bits.{with-own, with-other, with-below}
 use Rattle.arrival.specs.declared.Arrived.the-variants.{Taken, Refused}
-use Rattle.arrival.specs.Arriving.{answerLength, storeLength, blockAt, withBlock, place, arrivalTests, arrived, storeAfter, heardAfter}
-use Rattle.promise.specs.Demand3.{Task, Accepted, Call, arrival, decoding, State, unanswered, after, reply, run, replies, fit, fitFor, hasFit, bytes, firstFit}
-use Rattle.promise.proofs.Fits.{core, fit-core, arrival-core, core-numbered, FitMessage, fit-message}
+use Rattle.arrival.specs.Arriving.{answerLength, storeLength, blockAt, withBlock, arrivalTests, arrived, storeAfter, heardAfter}
+use Rattle.promise.specs.Demand3.{Task, Accepted, Call, arrival, decoding, State, unanswered, arrives, after, reply, run, replies, fit, fitFor, hasFit, bytes, firstFit}
+use Rattle.promise.proofs.Fits.{index, core, fit-core, arrival-core, core-numbered, FitMessage, fit-message}
 use Rattle.promise.proofs.Blocks.{length-with, block-own, block-other}
 
 -- conjunctions
@@ -57,19 +57,19 @@ module _ (x : Task) (s : State) (message : List ℕ) where
 
   taken : State
   taken = record {
-    heard = withPlace (s .heard) (place message);
-    store = withBlock (answerLength (x .job)) (s .store) (place message) (elements message);
+    heard = withHost (s .heard) (index message);
+    store = withBlock (answerLength (x .job)) (s .store) (index message) (elements message);
   }
 
   -- what the number n makes of an arrival
   told : ℕ → State
   told n = record {
-    heard = heardAfter (s .heard) (outcome n (Taken (withPlace (s .heard) (place message))) Refused);
-    store = outcome n (withBlock (answerLength (x .job)) (s .store) (place message) (elements message)) (λ k. s .store);
+    heard = heardAfter (s .heard) (outcome n (Taken (withHost (s .heard) (index message))) Refused);
+    store = outcome n (withBlock (answerLength (x .job)) (s .store) (index message) (elements message)) (λ k. s .store);
   }
 
   after-told : after x s (arrival message) ≡ told tests
-  unfolding after arrived storeAfter told tests
+  unfolding after arrives arrived storeAfter unlessRefused told tests
   after-told = refl
 
   after-taken : tests ≡ 0 → after x s (arrival message) ≡ taken
@@ -103,12 +103,12 @@ module _ (x : Task) (ok : Accepted x) (s : State) (good : Good x s) where
 
   module _ (message : List ℕ) where
     -- the message names host i and is fit
-    named : (i : ℕ) → fitFor x s i (arrival message) ≡ true → (fit x s message ≡ true) × (place message ≡ i)
+    named : (i : ℕ) → fitFor x s i (arrival message) ≡ true → (fit x s message ≡ true) × (index message ≡ i)
     unfolding fitFor
     named i e = go (fit x s message) refl e
       where
-        go : (f : Bool) → fit x s message ≡ f → (f && eqb (place message) i) ≡ true → (fit x s message ≡ true) × (place message ≡ i)
-        go true is e = (is, eqb-true (place message) i e)
+        go : (f : Bool) → fit x s message ≡ f → (f && eqb (index message) i) ≡ true → (fit x s message ≡ true) × (index message ≡ i)
+        go true is e = (is, eqb-true (index message) i e)
         go false is e = absurd (true≢false (sym e))
 
     passed : fit x s message ≡ true → first (core x message) ≡ 0
@@ -118,7 +118,7 @@ module _ (x : Task) (ok : Accepted x) (s : State) (good : Good x s) where
     unfolding bytes
     below-of i f = fit-message x ok message (passed (named i f .0)) .below
 
-    number : tests x s message ≡ first (core x message ++ ((isHeard (s .heard) (place message), 23) ∷ []))
+    number : tests x s message ≡ first (core x message ++ ((isHeard (s .heard) (index message), 23) ∷ []))
     unfolding tests
     number = arrival-core x ok s (good .room) message (good .none-above)
 
@@ -134,59 +134,59 @@ module _ (x : Task) (ok : Accepted x) (s : State) (good : Good x s) where
         (still (arrival message) (λ i f. absurd (true≢false (sym (named i f .0) ∙ e))) below-of)
 
     module _ (f : fit x s message ≡ true) where
-      last : (h : Bool) → isHeard (s .heard) (place message) ≡ h
+      last : (h : Bool) → isHeard (s .heard) (index message) ≡ h
           → tests x s message ≡ first ((h, 23) ∷ [])
       last h e =
           number
           ∙ first-append (core x message) _ (core-numbered x ok message) (passed f)
           ∙ ap (λ (t : Bool). first ((t, 23) ∷ [])) e
 
-      again : isHeard (s .heard) (place message) ≡ true → Step x s (arrival message) (after x s (arrival message))
+      again : isHeard (s .heard) (index message) ≡ true → Step x s (arrival message) (after x s (arrival message))
       again h =
           let kept : after x s (arrival message) ≡ s
           = after-refused x s message (λ z. suc-ne-zero 22 (sym (first-hit true 23 [] refl) ∙ sym (last true h) ∙ z)) in
           subst (Step x s (arrival message)) (sym kept)
           (still (arrival message) (λ i g. ap (isHeard (s .heard)) (sym (named i g .1)) ∙ h) below-of)
 
-      module _ (clear : isHeard (s .heard) (place message) ≡ false) where
+      module _ (clear : isHeard (s .heard) (index message) ≡ false) where
         own : FitMessage x message
         own = fit-message x ok message (passed f)
 
-        block : place message * answerLength (x .job) + answerLength (x .job) ≤ length (s .store)
+        block : index message * answerLength (x .job) + answerLength (x .job) ≤ length (s .store)
         unfolding storeLength
         block =
-            let rows : (place message + 1) * answerLength (x .job) ≤ x .job .hosts * answerLength (x .job)
-            = mul-le-mul-right (answerLength (x .job)) (let l : place message + 1 ≤ x .job .hosts = omega (arith, own .place) in l) in
+            let rows : (index message + 1) * answerLength (x .job) ≤ x .job .hosts * answerLength (x .job)
+            = mul-le-mul-right (answerLength (x .job)) (let l : index message + 1 ≤ x .job .hosts = omega (arith, own .index) in l) in
             omega (arith, good .room)
 
-        heard-by : (i : ℕ) → isHeard (withPlace (s .heard) (place message)) i ≡ (isHeard (s .heard) i || fitFor x s i (arrival message))
+        heard-by : (i : ℕ) → isHeard (withHost (s .heard) (index message)) i ≡ (isHeard (s .heard) i || fitFor x s i (arrival message))
         unfolding fitFor
         heard-by i =
             ⊎-elim
-            (λ (e : eqb (place message) i ≡ true).
-            let same = eqb-true (place message) i e in
-            ap (isHeard (withPlace (s .heard) (place message))) (sym same)
-            ∙ with-own (s .heard) (place message) clear
-            ∙ sym (or-true (isHeard (s .heard) i) (fit x s message && eqb (place message) i) (both-true f e)))
-            (λ (e : eqb (place message) i ≡ false).
-            with-other (s .heard) (place message) clear i (eqb-false (place message) i e)
-            ∙ sym (or-false (isHeard (s .heard) i) (fit x s message && eqb (place message) i) (second-false (fit x s message) e)))
-            (by-test (eqb (place message) i))
+            (λ (e : eqb (index message) i ≡ true).
+            let same = eqb-true (index message) i e in
+            ap (isHeard (withHost (s .heard) (index message))) (sym same)
+            ∙ with-own (s .heard) (index message) clear
+            ∙ sym (or-true (isHeard (s .heard) i) (fit x s message && eqb (index message) i) (both-true f e)))
+            (λ (e : eqb (index message) i ≡ false).
+            with-other (s .heard) (index message) clear i (eqb-false (index message) i e)
+            ∙ sym (or-false (isHeard (s .heard) i) (fit x s message && eqb (index message) i) (second-false (fit x s message) e)))
+            (by-test (eqb (index message) i))
 
         take : Step x s (arrival message) (taken x s message)
         unfolding taken bytes
         take = record {
           good = record {
-            none-above = with-below (s .heard) (place message) clear (x .job .hosts) (good .none-above) (own .place);
-            room = length-with (answerLength (x .job)) (s .store) (place message) (elements message) block (own .fills) ∙ good .room;
+            none-above = with-below (s .heard) (index message) clear (x .job .hosts) (good .none-above) (own .index);
+            room = length-with (answerLength (x .job)) (s .store) (index message) (elements message) block (own .fills) ∙ good .room;
           };
           heard = heard-by;
           kept = λ i h.
-              block-other (answerLength (x .job)) (s .store) (place message) (elements message) block (own .fills) i
+              block-other (answerLength (x .job)) (s .store) (index message) (elements message) block (own .fills) i
               (λ e. true≢false (sym h ∙ ap (isHeard (s .heard)) e ∙ clear));
           new = λ i c g.
-              ap (blockAt (answerLength (x .job)) (withBlock (answerLength (x .job)) (s .store) (place message) (elements message))) (sym (named i g .1))
-              ∙ block-own (answerLength (x .job)) (s .store) (place message) (elements message) block (own .fills);
+              ap (blockAt (answerLength (x .job)) (withBlock (answerLength (x .job)) (s .store) (index message) (elements message))) (sym (named i g .1))
+              ∙ block-own (answerLength (x .job)) (s .store) (index message) (elements message) block (own .fills);
           below = below-of;
         }
 
@@ -199,9 +199,9 @@ module _ (x : Task) (ok : Accepted x) (s : State) (good : Good x s) where
   stepped (arrival message) =
       ⊎-elim
       (λ (f : fit x s message ≡ true).
-      ⊎-elim (λ (h : isHeard (s .heard) (place message) ≡ true). again message f h)
-      (λ (clear : isHeard (s .heard) (place message) ≡ false). fresh message f clear)
-      (by-test (isHeard (s .heard) (place message))))
+      ⊎-elim (λ (h : isHeard (s .heard) (index message) ≡ true). again message f h)
+      (λ (clear : isHeard (s .heard) (index message) ≡ false). fresh message f clear)
+      (by-test (isHeard (s .heard) (index message))))
       (λ (e : fit x s message ≡ false). unfit message e)
       (by-test (fit x s message))
 

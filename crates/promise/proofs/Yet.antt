@@ -22,7 +22,7 @@ use Rattle.algebra.proofs.Sets.{members-cong}
 use Rattle.algebra.proofs.Lists.{below-test}
 use Rattle.algebra.proofs.Tests.{by-test, alike}
 use Rattle.refusal.specs.Chain.{Test, first}
-use Rattle.refusal.proofs.Chains.{first-none, first-miss, first-clear, first-append, outcome-done}
+use Rattle.refusal.proofs.Chains.{first-none, first-miss, first-clear, first-append, unless-done}
 use Rattle.plan.specs.Planning.{prime, blockRows, blockColumns, neededOf}
 use Rattle.plan.proofs.Then.{then-own}
 use Rattle.message_header.specs.declared.Header.{Header}
@@ -33,12 +33,12 @@ use Rattle.message.proofs.RoundTrips.{reads-back}
 use Rattle.arrival_heard.specs.Heard.{isHeard, someAbove}
 use Rattle.arrival_heard.proofs.Bits.{none-heard, ones-size}
 use Rattle.arrival.proofs.Outcomes.{message-numbered}
-use Rattle.arrival.specs.Arriving.{answerLength, storeLength, blockAt, place, foreign}
+use Rattle.arrival.specs.Arriving.{answerLength, storeLength, blockAt, hostIndex, foreign}
 use Rattle.product.specs.Product.{productOf}
-use Rattle.decode.specs.Decoding.{tableOf, tableLength, heardBelow, decodeTests, tableAfter}
-use Rattle.promise.specs.Demand3.{Task, Accepted, Call, arrival, decoding, State, Reply, unanswered, reply, run, replies, matrix, fitFor, hasFit, firstFit, begin, answerHeader, headerFor, trueProduct, Trace}
+use Rattle.decode.specs.Decoding.{tableLength, heardBelow, tableTests, decodeTests, tableAfter}
+use Rattle.promise.specs.Demand3.{Task, Accepted, Call, arrival, decoding, State, Reply, unanswered, reply, run, replies, matrix, fitFor, hasFit, firstFit, begin, answerHeader, headerFor, shareFor, trueProduct, Trace}
 use Rattle.promise.proofs.Fits.{core, others, fit-core}
-use Rattle.promise.proofs.Made.{answer, share, answer-written}
+use Rattle.promise.proofs.Made.{answer, answer-written}
 use Rattle.promise.proofs.Trace.{Good, Ran, ran, replies-at}
 use Rattle.promise.proofs.Exact.{exact, answerBlock}
 
@@ -47,7 +47,7 @@ module _ (x : Task) (ok : Accepted x) (ma mb : List ℕ) (i : ℕ) (low : i < x 
   message = trueProduct x (suc i) ma mb
 
   is-message : message ≡ messageOf (answerHeader x (suc i)) (answer x ok i low ma mb)
-  unfolding message trueProduct answer share matrix
+  unfolding message trueProduct answer
   is-message = refl
 
   read : ReadsBack (answerHeader x (suc i)) (answer x ok i low ma mb)
@@ -75,7 +75,7 @@ module _ (x : Task) (ok : Accepted x) (ma mb : List ℕ) (i : ℕ) (low : i < x 
       ∙ first-none
 
   pub true-fit : (s : State) → length (s .store) ≡ storeLength (x .job) → fitFor x s i (arrival (trueProduct x (suc i) ma mb)) ≡ true
-  unfolding fitFor place message answerHeader headerFor
+  unfolding fitFor hostIndex message answerHeader headerFor
   true-fit s room =
       ap₂ _&&_ (fit-core x ok s room message ∙ eq-eqb (first (core x message)) 0 core-clear)
       (eq-eqb (headerOf message .host - 1) i (ap (λ (h : Header). h .host - 1) header-is ∙ (let e : suc i - 1 ≡ i = omega arith in e)))
@@ -100,7 +100,7 @@ module _ (x : Task) (ok : Accepted x) (s : State) (good : Good x s)
     (below : (i : ℕ) → isHeard (s .heard) i ≡ true → AllBelow (prime (x .job)) (blockAt (answerLength (x .job)) (s .store) i))
     (table : List ℕ) (exact : length table ≡ tableLength (x .job)) where
   pub decode-number : first (decodeTests (x .job) (x .points) (s .heard) (s .store) (length table)) ≡ first ((ltb (ones (s .heard)) (neededOf (x .job)), 24) ∷ [])
-  unfolding decodeTests someAbove
+  unfolding decodeTests tableTests someAbove
   decode-number =
       let job = x .job in
       then-own job (x .points) _ (ok .planned)
@@ -176,11 +176,11 @@ module _ (x : Task) (ok : Accepted x) (ma mb store : List ℕ) (room : length st
         → ((i : ℕ) → i < x .job .hosts → hasFit x (begin store) before i ≡ true → firstFit x (begin store) before i ≡ trueProduct x (suc i) ma mb)
         → getD (replies x (begin store) calls) (length before) unanswered .table
         ≡ productOf (prime (x .job)) (x .job .t) (x .job .s) (x .job .r) (x .a) (x .b)
-    unfolding state reply tableAfter answerBlock answer share matrix
+    unfolding state reply tableAfter answerBlock answer shareFor matrix
     table-is calls e enough true-first =
         let many = subst (λ (n : ℕ). neededOf (x .job) ≤ n) (sym (count-is before)) enough in
         ap (λ (r : Reply). r .table) (reply-is calls e)
-        ∙ outcome-done (tableOf (x .job) (x .points) (state .heard) (state .store)) (λ n. table) _ (decides .1 many)
+        ∙ unless-done _ _ table (decides .1 many)
         ∙ exact x ok ma mb (state .heard) (state .store) many (λ h l is-heard.
         block-is before h is-heard ∙ ap elements (true-first h l (sym (heard-is before h) ∙ is-heard)) ∙ elements-true x ok ma mb h l)
 

@@ -1,23 +1,23 @@
 -- Demand 1 (00): "Every plan, share, product, message, arrival and decoding inside the sheet's limits is carried out, and only
 -- the named part of a lent buffer is written. Every other input, a garden heard a second time included, gets the first refusal
 -- number that fits it in the sheet's order, and no element of any lent buffer changes."
--- It is said of the definitions that the calls' contracts cite; a call's answer is its number, and 0 means carried out.
+-- It is said of the definitions that the calls' contracts cite; a call returns its number, and 0 means carried out.
 --
---   Judged rows n             == n is 0 exactly where no test of the rows holds; otherwise it is the number of the first that does
---   Leaves n after done was   == where n is 0 a buffer holds `done` after the call, and otherwise what it held before
---   Tells rows t values       == what an answer says on paper: its number is judged by the rows, and where it is 0 the values are
+--   test tests i              == the test at i
+--   Judged tests n            == n is 0 exactly where no test holds; otherwise it is the number of the first that does
+--   Call tests n after made was == a call with these tests returns n, judged by them; where n is 0 a lent buffer holds `made` after
+--                                it, and otherwise what it held before
+--   Tells tests t values      == what a call returns, on paper: its number is judged by the tests, and where it is 0 the values are
 --                                these; a refusal has none
 --   Demand1                   == every call is judged by its tests, in the sheet's order, and leaves its buffers so
 use mathlib.Core.Path.{_≡_}
 use mathlib.Core.Bool.{true, false}
 use mathlib.Core.Logic.{_↔_}
-use mathlib.Core.List.{List, [], _∷_, _++_}
+use mathlib.Core.List.{List, [], _++_}
 use Prim.Native.Nat.{ℕ, _<_}
-use lib.IntN.{ℤ}
 use lib.ListN.{length, getD, drop}
 use Rattle.refusal.specs.Chain.{Test, first, Told}
-use Rattle.field.specs.Modulus.{modulus, noModulus, named}
-use Rattle.field.specs.Modulus.{told as Modulus·told}
+use Rattle.field.specs.Modulus.{modulus}
 use Rattle.plan.specs.declared.Job.{Job}
 use Rattle.plan.specs.Planning.{planTests, planned, planValues}
 use Rattle.plan.specs.Planning.{told as Planning·told}
@@ -27,29 +27,28 @@ use Rattle.product.specs.Product.{productOf, productTests, productAfter}
 use Rattle.message_header.specs.declared.Header.{Header}
 use Rattle.mukerihe.specs.Host.{hostTests, hostProduct, hostAfter}
 use Rattle.message_header.specs.Header.{headerOf, elementCount, fields}
-use Rattle.message_header.specs.Header.{told as Header·told}
 use Rattle.message.specs.Format.{messageOf, elements, writeTests, readTests, written, readAs, readInto}
-use Rattle.arrival_heard.specs.Heard.{withPlace}
-use Rattle.arrival.specs.Arriving.{answerLength, withBlock, place, arrivalTests, arrived, storeAfter, heardAfter}
-use Rattle.arrival.specs.Arriving.{numberOf as Arriving·numberOf}
+use Rattle.message.specs.Format.{told as Format·told}
+use Rattle.arrival_heard.specs.Heard.{withHost}
+use Rattle.arrival.specs.Arriving.{answerLength, withBlock, hostIndex, arrivalTests, arrived, storeAfter, numberOf, heardAfter}
 use Rattle.decode.specs.Decoding.{tableOf, decodeTests, tableAfter}
-use Rattle.field_signed.specs.Signed.{signed, element, signedTests, elementTests, signedOutcome, elementOutcome, signedTold, elementTold}
 
--- the row at i; there is none past the end
-abbrev pub row : List Test → ℕ → Test
-row rows i = getD rows i (false, 0)
+-- there is none past the end
+abbrev pub test : List Test → ℕ → Test
+test tests i = getD tests i (false, 0)
 
-pub record Judged (rows : List Test) (n : ℕ) : Type 0 where
-  pub carried-out : (n ≡ 0) ↔ ((i : ℕ) → i < length rows → row rows i .0 ≡ false)
+pub record Judged (tests : List Test) (n : ℕ) : Type 0 where
+  pub carried-out : (n ≡ 0) ↔ ((i : ℕ) → i < length tests → test tests i .0 ≡ false)
   pub refused : (n ≡ 0 → ⊥)
-      → (i : ℕ) × (i < length rows) × (row rows i .0 ≡ true) × (row rows i .1 ≡ n) × ((j : ℕ) → j < i → row rows j .0 ≡ false)
+      → (i : ℕ) × (i < length tests) × (test tests i .0 ≡ true) × (test tests i .1 ≡ n) × ((j : ℕ) → j < i → test tests j .0 ≡ false)
 
-pub record Leaves (n : ℕ) (after done was : List ℕ) : Type 0 where
-  pub carried-out : n ≡ 0 → after ≡ done
+pub record Call (tests : List Test) (n : ℕ) (after made was : List ℕ) : Type 0 where
+  pub judged : Judged tests n
+  pub carried-out : n ≡ 0 → after ≡ made
   pub refused : (n ≡ 0 → ⊥) → after ≡ was
 
-pub record Tells {A : Type 0} (rows : List Test) (t : Told A) (values : List A) : Type 0 where
-  pub judged : Judged rows (t .number)
+pub record Tells {A : Type 0} (tests : List Test) (t : Told A) (values : List A) : Type 0 where
+  pub judged : Judged tests (t .number)
   pub carried-out : t .number ≡ 0 → t .values ≡ values
   pub refused : (t .number ≡ 0 → ⊥) → t .values ≡ []
 
@@ -57,32 +56,26 @@ pub record Demand1 : Type 0 where
   -- layout, K and the sizes of blocks are told
   pub plan : (job : Job) (points : List ℕ) → Tells (planTests job points) (Planning·told (planned job points)) (planValues job)
   pub share : (m : Matrix) (job : Job) (points : List ℕ) (host : ℕ) (xs ms out : List ℕ)
-      → Judged (shareTests m job points host xs ms (length out)) (first (shareTests m job points host xs ms (length out)))
-      × Leaves (first (shareTests m job points host xs ms (length out))) (shareAfter m job points host xs ms out) (hostShare m job points host xs ms) out
-  pub product : (n rows inner columns : ℕ) (a b out : List ℕ)
-      → Judged (productTests n rows inner columns a b (length out)) (first (productTests n rows inner columns a b (length out)))
-      × Leaves (first (productTests n rows inner columns a b (length out))) (productAfter n rows inner columns a b out) (productOf (modulus n) rows inner columns a b) out
+      → let tests = shareTests m job points host xs ms (length out) in
+      Call tests (first tests) (shareAfter m job points host xs ms out) (hostShare m job points host xs ms) out
+  pub product : (n rows inner columns : ℕ) (a b out : List ℕ) → let tests = productTests n rows inner columns a b (length out) in
+      Call tests (first tests) (productAfter n rows inner columns a b out) (productOf (modulus n) rows inner columns a b) out
   -- the product that a partner links into a C program, on bytes
-  pub host : (n rows inner columns : ℕ) (a b out : List ℕ)
-      → Judged (hostTests n rows inner columns a b (length out)) (first (hostTests n rows inner columns a b (length out)))
-      × Leaves (first (hostTests n rows inner columns a b (length out))) (hostAfter n rows inner columns a b out) (hostProduct n rows inner columns a b) out
-  pub write : (h : Header) (xs out : List ℕ)
-      → Judged (writeTests h xs (length out)) (first (writeTests h xs (length out)))
-      × Leaves (first (writeTests h xs (length out))) (written h xs out) (messageOf h xs) out
+  pub host : (n rows inner columns : ℕ) (a b out : List ℕ) → let tests = hostTests n rows inner columns a b (length out) in
+      Call tests (first tests) (hostAfter n rows inner columns a b out) (hostProduct n rows inner columns a b) out
+  pub write : (h : Header) (xs out : List ℕ) → let tests = writeTests h xs (length out) in
+      Call tests (first tests) (written h xs out) (messageOf h xs) out
   -- the fields are told; past rows times columns the output is untouched
-  pub read : (message out : List ℕ)
-      → Tells (readTests message (length out)) (Header·told (readAs message (length out))) (fields (headerOf message))
-      × Leaves (Header·told (readAs message (length out)) .number) (readInto message out) (elements message ++ drop (elementCount (headerOf message)) out) out
+  pub read : (message out : List ℕ) → let tests = readTests message (length out) in let t = Format·told (readAs message (length out)) in
+      Tells tests t (fields (headerOf message))
+      × Call tests (t .number) (readInto message out) (elements message ++ drop (elementCount (headerOf message)) out) out
   -- an arrival writes its own block and sets its own bit
   pub arrival : (job : Job) (points : List ℕ) (heard : ℕ) (store message : List ℕ)
-      → Judged (arrivalTests job points heard (length store) message) (Arriving·numberOf (arrived job points heard store message))
-      × Leaves (Arriving·numberOf (arrived job points heard store message)) (storeAfter job points heard store message) (withBlock (answerLength job) store (place message) (elements message)) store
-      × (Arriving·numberOf (arrived job points heard store message) ≡ 0 → heardAfter heard (arrived job points heard store message) ≡ withPlace heard (place message))
-      × ((Arriving·numberOf (arrived job points heard store message) ≡ 0 → ⊥) → heardAfter heard (arrived job points heard store message) ≡ heard)
+      → let r = arrived job points heard store message in let index = hostIndex (headerOf message) in
+      Call (arrivalTests job points heard (length store) message) (numberOf r) (storeAfter job points heard store message)
+      (withBlock (answerLength job) store index (elements message)) store
+      × (numberOf r ≡ 0 → heardAfter heard r ≡ withHost heard index)
+      × ((numberOf r ≡ 0 → ⊥) → heardAfter heard r ≡ heard)
   pub decode : (job : Job) (points : List ℕ) (heard : ℕ) (store table : List ℕ)
-      → Judged (decodeTests job points heard store (length table)) (first (decodeTests job points heard store (length table)))
-      × Leaves (first (decodeTests job points heard store (length table))) (tableAfter job points heard store table) (tableOf job points heard store) table
-  -- Calls that the demand does not name. Signed reading and its way back; a modulus number names its modulus.
-  pub signed-reading : (n v : ℕ) → Tells (signedTests n v) (signedTold (signedOutcome n v)) (signed (modulus n) v ∷ [])
-  pub way-back : (n : ℕ) (z : ℤ) → Tells (elementTests n z) (elementTold (elementOutcome n z)) (element (modulus n) z ∷ [])
-  pub naming : (n : ℕ) → Tells ((noModulus n, 1) ∷ []) (Modulus·told (named n)) (n ∷ [])
+      → let tests = decodeTests job points heard store (length table) in
+      Call tests (first tests) (tableAfter job points heard store table) (tableOf job points heard store) table

@@ -21,9 +21,9 @@ use Rattle.layout.specs.declared.Layout.{Layout}
 use Rattle.layout.specs.Exponents.{exponents, number}
 use Rattle.layout.specs.Sound.{Threshold}
 use Rattle.plan.specs.declared.Job.{Job}
-use Rattle.plan.specs.Planning.{prime, parameters, blockRows, blockColumns, layoutOf, neededOf, planOf, planTests}
+use Rattle.plan.specs.Planning.{prime, parameters, blockRows, blockColumns, layoutOf, neededOf, planTests}
 use Rattle.share_side.specs.declared.Matrix.{Matrix}
-use Rattle.share_side.specs.Weights.{side}
+use Rattle.share_side.specs.Sides.{side}
 use Rattle.share.specs.Sharing.{shareEntry, point, shareTests, shareAfter}
 use Rattle.product.specs.Product.{productEntry, productTests, productAfter}
 use Rattle.message_bytes.specs.Bytes.{elementsOf}
@@ -66,8 +66,8 @@ pub record Demand2 : Type 0 where
   -- "A share is the sum of blocks and masks, each times the point to its exponent, mod q."
   pub share : (m : Matrix) (job : Job) (points : List ℕ) (host : ℕ) (xs ms out : List ℕ)
       → first (shareTests m job points host xs ms (length out)) ≡ 0
-      → let s = side m (planOf job) in
-      Modulo (prime job) (s .rows) (s .columns) (shareEntry (exponents (layoutOf job) (parameters job)) s (point points host) xs ms)
+      → let s = side m job in
+      Modulo (prime job) (s .«block_rows») (s .«block_columns») (shareEntry (exponents (layoutOf job) (parameters job)) s (point points host) xs ms)
       (shareAfter m job points host xs ms out)
   -- "K is the number of answers needed."
   pub needed : (job : Job) (points : List ℕ) → first (planTests job points) ≡ 0 → Needed job

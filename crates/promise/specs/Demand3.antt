@@ -1,5 +1,5 @@
 -- Demand 3 (00), in the words of 01, "Arrivals".
--- A place counts from 0: host i is at place i - 1.
+-- A host's index counts from 0: host i has index i - 1.
 --
 --   Task                 == a job: its public numbers, its points and its matrices
 --   publicNumbers x      == the numbers that a host may know
@@ -7,13 +7,15 @@
 --   SamePublic x y       == two jobs with the same public numbers and points
 --   Masks m x ms         == ms are masks for matrix m
 --   largest m x          == X_A or X_B: the size of the largest group kept ignorant of matrix m
+--   shareFor m x i ms    == host i's share of matrix m
 --   shareMessage m x i ms     == host i's A message or B message
 --   trueProduct x i ma mb     == host i's true product, as a message
 --   Hidden m x y g       == the masks of two jobs match one to one, so that every host of the group g gets the same bytes
 --   Privacy              == so it is for any two jobs with the same public numbers and points, and any group that is not too large
---   Call, State, Reply   == an arrival or a decoding; what is carried from call to call; what a call answers
---   after, reply         == what a call leaves, and what it answers
---   run, replies         == what a list of calls leaves, and what each of them answers
+--   Call, State, Reply   == an arrival or a decoding; what is carried from call to call; what a call returns
+--   arrives              == what an arrival returns
+--   after, reply         == what a call leaves, and what it returns
+--   run, replies         == what a list of calls leaves, and what each of them returns
 --   fit                  == an arrival is fit
 --   hasFit, firstFit     == a host has a fit message in a list of calls, and its first
 --   unanswered           == what stands where there is no reply
@@ -31,19 +33,19 @@ use Rattle.algebra.specs.Lists.{AllBelow}
 use Rattle.algebra.specs.Sets.{size}
 use Rattle.refusal.specs.Chain.{first, except, done}
 use Rattle.plan.specs.declared.Job.{Job}
-use Rattle.plan.specs.Planning.{prime, blockRows, blockInner, blockColumns, neededOf, planOf, planTests, planned, told, planValues}
+use Rattle.plan.specs.Planning.{prime, blockRows, blockInner, blockColumns, neededOf, planTests, planned, told, planValues}
 use Rattle.share_side.specs.declared.Matrix.{Matrix}
 use Rattle.share_side.specs.declared.Matrix.the-variants.{A, B}
-use Rattle.share_side.specs.Weights.{side}
-use Rattle.share_blocks.specs.Encoding.{maskLength, blockLength}
+use Rattle.share_side.specs.Sides.{side, maskLength, blockLength}
 use Rattle.share.specs.Sharing.{hostShare, shareAfter}
 use Rattle.product.specs.Product.{productOf, productAfter}
 use Rattle.mukerihe.specs.Host.{hostAfter}
 use Rattle.message_header.specs.declared.Header.{Header}
-use Rattle.message_header.specs.Header.{elementCount}
+use Rattle.message_header.specs.Header.{headerOf, elementCount}
 use Rattle.message.specs.Format.{messageOf, payload, written}
 use Rattle.arrival_heard.specs.Heard.{isHeard}
-use Rattle.arrival.specs.Arriving.{storeLength, place, arrivalTests, arrived, storeAfter, numberOf, heardAfter}
+use Rattle.arrival.specs.declared.Arrived.{Arrived}
+use Rattle.arrival.specs.Arriving.{storeLength, hostIndex, arrivalTests, arrived, storeAfter, numberOf, heardAfter}
 use Rattle.decode.specs.Decoding.{tableLength, decodeTests, tableAfter}
 
 pub record Task : Type 0 where
@@ -69,19 +71,8 @@ pub record Accepted (x : Task) : Type 0 where
 -- "Its public numbers are modulus number, t, s, r, m, p, n, X_A, X_B, N and job number."
 unfoldable pub publicNumbers : Task → List ℕ
 publicNumbers x =
-    let job = x .job in
-    job .modulus
-    ∷ job .t
-    ∷ job .s
-    ∷ job .r
-    ∷ job .m
-    ∷ job .p
-    ∷ job .n
-    ∷ job .xa
-    ∷ job .xb
-    ∷ job .hosts
-    ∷ job .number
-    ∷ []
+    let j = x .job in
+    j .modulus ∷ j .t ∷ j .s ∷ j .r ∷ j .m ∷ j .p ∷ j .n ∷ j .xa ∷ j .xb ∷ j .hosts ∷ j .number ∷ []
 
 pub record SamePublic (x y : Task) : Type 0 where
   pub numbers : publicNumbers x ≡ publicNumbers y
@@ -89,7 +80,7 @@ pub record SamePublic (x y : Task) : Type 0 where
 
 -- "Masks are any lists of exact length with elements below q."
 pub record Masks (m : Matrix) (x : Task) (ms : List ℕ) : Type 0 where
-  pub exact : length ms ≡ maskLength (side m (planOf (x .job)))
+  pub exact : length ms ≡ maskLength (side m (x .job))
   pub below : AllBelow (prime (x .job)) ms
 
 unfoldable pub largest : Matrix → Task → ℕ
@@ -102,35 +93,31 @@ kindOf A = 1
 kindOf B = 2
 
 -- the header for the job's numbers and host i
-unfoldable pub headerFor : ℕ → Task → ℕ → ℕ → ℕ → Header
-headerFor kind x i rows columns = record {
-  kind = kind;
-  modulus = x .job .modulus;
-  host = i;
-  rows = rows;
-  columns = columns;
-  number = x .job .number;
-}
+unfoldable pub headerFor : ℕ → Job → ℕ → ℕ → ℕ → Header
+headerFor kind job i rows columns =
+    record { kind = kind; modulus = job .modulus; host = i; rows = rows; columns = columns; number = job .number }
 
 unfoldable pub shareHeader : Matrix → Task → ℕ → Header
-shareHeader m x i = let s = side m (planOf (x .job)) in headerFor (kindOf m) x i (s .rows) (s .columns)
+shareHeader m x i = let s = side m (x .job) in headerFor (kindOf m) (x .job) i (s .«block_rows») (s .«block_columns»)
 
 unfoldable pub answerHeader : Task → ℕ → Header
-answerHeader x i = headerFor 3 x i (blockRows (x .job)) (blockColumns (x .job))
+answerHeader x i = headerFor 3 (x .job) i (blockRows (x .job)) (blockColumns (x .job))
+
+-- host i's share of matrix m
+unfoldable pub shareFor : Matrix → Task → ℕ → List ℕ → List ℕ
+shareFor m x i ms = hostShare m (x .job) (x .points) i (matrix m x) ms
 
 -- "Host i's A message is the one for kind 1, the job's numbers, host i and its A share. Its B message is the same with kind 2
 -- and its B share"
 unfoldable pub shareMessage : Matrix → Task → ℕ → List ℕ → List ℕ
-shareMessage m x i ms = messageOf (shareHeader m x i) (hostShare m (x .job) (x .points) i (matrix m x) ms)
+shareMessage m x i ms = messageOf (shareHeader m x i) (shareFor m x i ms)
 
 -- "its true product with kind 3 and its A share times its B share"
 unfoldable pub trueProduct : Task → ℕ → List ℕ → List ℕ → List ℕ
 trueProduct x i ma mb =
-    let job = x .job in
+    let j = x .job in
     messageOf (answerHeader x i)
-    (productOf (prime job) (blockRows job) (blockInner job) (blockColumns job)
-    (hostShare A job (x .points) i (x .a) ma)
-    (hostShare B job (x .points) i (x .b) mb))
+    (productOf (prime j) (blockRows j) (blockInner j) (blockColumns j) (shareFor A x i ma) (shareFor B x i mb))
 
 -- "each list of one job has one partner among the other's, and each of the other's is the partner of exactly one. Under
 -- partners every host of the group gets the same bytes in both jobs"
@@ -171,24 +158,23 @@ unfoldable pub unanswered : Reply
 unanswered = record { number = 99; table = [] }
 
 module _ (x : Task) where
+  -- what an arrival returns
+  unfoldable pub arrives : State → List ℕ → Arrived
+  arrives s message = arrived (x .job) (x .points) (s .heard) (s .store) message
+
   -- "Each later one takes the hosts heard and the store as the one before left them, a refused one too; nobody writes in the
   -- store between, and a decoding changes neither."
   unfoldable pub after : State → Call → State
-  after s (arrival message) = record {
-    heard = heardAfter (s .heard) (arrived (x .job) (x .points) (s .heard) (s .store) message);
-    store = storeAfter (x .job) (x .points) (s .heard) (s .store) message;
-  }
+  after s (arrival message) =
+      let store = storeAfter (x .job) (x .points) (s .heard) (s .store) message in
+      record { heard = heardAfter (s .heard) (arrives s message); store = store }
   after s (decoding table) = s
 
   unfoldable pub reply : State → Call → Reply
-  reply s (arrival message) = record {
-    number = numberOf (arrived (x .job) (x .points) (s .heard) (s .store) message);
-    table = [];
-  }
-  reply s (decoding table) = record {
-    number = first (decodeTests (x .job) (x .points) (s .heard) (s .store) (length table));
-    table = tableAfter (x .job) (x .points) (s .heard) (s .store) table;
-  }
+  reply s (arrival message) = record { number = numberOf (arrives s message); table = [] }
+  reply s (decoding table) =
+      let number = first (decodeTests (x .job) (x .points) (s .heard) (s .store) (length table)) in
+      record { number = number; table = tableAfter (x .job) (x .points) (s .heard) (s .store) table }
 
   unfoldable pub run : State → List Call → State
   run s [] = s
@@ -204,7 +190,7 @@ module _ (x : Task) where
 
   -- "its message is then a fit message of the host it names"
   unfoldable pub fitFor : State → ℕ → Call → Bool
-  fitFor s i (arrival message) = fit s message && eqb (place message) i
+  fitFor s i (arrival message) = fit s message && eqb (hostIndex (headerOf message)) i
   fitFor s i (decoding table) = false
 
   unfoldable pub hasFit : State → List Call → ℕ → Bool
@@ -249,28 +235,18 @@ pub record Trace (x : Task) (ma mb store : List ℕ) (calls : List Call) : Type 
 pub record Made (x : Task) (i : ℕ) (ma mb : List ℕ) : Type 0 where
   -- planning tells the layout, K and the sizes of blocks
   pub plan : told (planned (x .job) (x .points)) ≡ done (planValues (x .job))
-  pub share : (m : Matrix) (ms out message : List ℕ) → Masks m x ms
-      → length out ≡ blockLength (side m (planOf (x .job)))
+  pub share : (m : Matrix) (ms out message : List ℕ) → Masks m x ms → length out ≡ blockLength (side m (x .job))
       → length message ≡ 16 + 4 * elementCount (shareHeader m x i)
-      → written (shareHeader m x i) (shareAfter m (x .job) (x .points) i (matrix m x) ms out) message ≡ shareMessage m x i ms
-  pub product : (out-a out-b out message : List ℕ) → length out-a ≡ blockLength (side A (planOf (x .job)))
-      → length out-b ≡ blockLength (side B (planOf (x .job)))
-      → length out ≡ blockRows (x .job) * blockColumns (x .job)
+      → (shareAfter m (x .job) (x .points) i (matrix m x) ms out ≡ shareFor m x i ms)
+      × (written (shareHeader m x i) (shareFor m x i ms) message ≡ shareMessage m x i ms)
+  pub product : (out message : List ℕ) → let j = x .job in length out ≡ blockRows j * blockColumns j
       → length message ≡ 16 + 4 * elementCount (answerHeader x i)
-      → written (answerHeader x i)
-      (productAfter (x .job .modulus) (blockRows (x .job)) (blockInner (x .job)) (blockColumns (x .job))
-      (shareAfter A (x .job) (x .points) i (x .a) ma out-a)
-      (shareAfter B (x .job) (x .points) i (x .b) mb out-b)
-      out)
-      message
-      ≡ trueProduct x i ma mb
+      → let answer = productAfter (j .modulus) (blockRows j) (blockInner j) (blockColumns j) (shareFor A x i ma) (shareFor B x i mb) out in
+      written (answerHeader x i) answer message ≡ trueProduct x i ma mb
   -- the product that a partner links into a C program makes the bytes of the true product's elements from those of the A
   -- message's and the B message's
-  pub host : (out : List ℕ) → length out ≡ 4 * elementCount (answerHeader x i)
-      → hostAfter (x .job .modulus) (blockRows (x .job)) (blockInner (x .job)) (blockColumns (x .job))
-      (payload (shareMessage A x i ma))
-      (payload (shareMessage B x i mb))
-      out
+  pub host : (out : List ℕ) → length out ≡ 4 * elementCount (answerHeader x i) → let j = x .job in
+      hostAfter (j .modulus) (blockRows j) (blockInner j) (blockColumns j) (payload (shareMessage A x i ma)) (payload (shareMessage B x i mb)) out
       ≡ payload (trueProduct x i ma mb)
 
 pub record Demand3 : Type 0 where

@@ -1,4 +1,4 @@
--- Laws of sharing: sums and answers.
+-- Laws of sharing: sums and outcomes.
 pub mod Examples
 pub mod Sums
 pub mod Outcomes

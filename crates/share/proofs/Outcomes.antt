@@ -1,77 +1,99 @@
--- What a call of sharing answers and leaves.
+-- What a call of sharing returns and leaves.
 --
---   side-small    a side of an accepted job keeps the limits
---   refused       by a number that is not 0: the output stays
---   done          by 0: the output holds the share
---   Passed, passed  what sharing's own tests tell, once they have passed
-use mathlib.Core.Path.{_≡_, sym, ap, _∙_}
-use mathlib.Core.Bool.{not}
-use mathlib.Core.List.{List}
-use Prim.Native.Nat.{ℕ, _≤_}
+--   unless-agree   two lists of tests that tell the same number, and the same made where it is 0: the same is left
+--   share-made     what encoding leaves is the share, or what was there
+--   refused        a number that is not 0: the output stays
+--   host-refused   planning accepts, and test 12 holds
+--   shared         planning accepts, and test 12 does not hold: what is then told and left, by the plan
+use mathlib.Core.Path.{_≡_, refl, sym, ap, ap₂, _∙_}
+use mathlib.Core.Bool.{true, false}
+use mathlib.Core.List.{List, _++_}
+use Prim.Native.Nat.{ℕ, zero, suc}
+use native.Mathlib.Nat.{suc-ne-zero}
 use lib.ListN.{length}
-use borrow.Author.Tests.{not-false}
-use Rattle.algebra.specs.Lists.{AllBelow, allBelow}
-use Rattle.algebra.proofs.Lists.{all-below-test}
-use Rattle.refusal.specs.Chain.{first, outcome, outside}
-use Rattle.refusal.proofs.Chains.{first-clear, outcome-done, outcome-refused, inside-low, inside-high}
+use Rattle.algebra.specs.Lists.{AllBelow}
+use Rattle.refusal.specs.Chain.{Test, first, outcome, outside, unlessRefused}
+use Rattle.refusal.proofs.Chains.{first-hit, first-miss, unless-refused}
+use Rattle.field.specs.declared.Modulus.{Modulus}
+use Rattle.field.specs.Modulus.{prime}
+use Rattle.layout.specs.declared.Parameters.{Parameters}
+use Rattle.layout.specs.declared.Strides.{Strides}
+use Rattle.layout.specs.Exponents.{Exponents, exponents}
+use Rattle.layout.specs.Contracts.{Follows}
 use Rattle.plan.specs.declared.Job.{Job}
-use Rattle.plan.specs.Planning.{parameters, planOf}
-use Rattle.plan.proofs.Facts.{Fits}
-use Rattle.plan.proofs.Sizes.{sizes}
+use Rattle.plan.specs.declared.Plan.{Plan}
+use Rattle.plan.specs.Planning.{prime as Planning·prime, planOf, planTests}
+use Rattle.plan.proofs.Facts.{facts}
+use Rattle.plan.proofs.Then.{then-own, own-prime}
 use Rattle.share_side.specs.declared.Matrix.{Matrix}
-use Rattle.share_side.specs.declared.Matrix.the-variants.{A, B}
 use Rattle.share_side.specs.declared.Side.{Side}
-use Rattle.share_side.specs.Weights.{Small, side}
-use Rattle.share_blocks.specs.Encoding.{lengthTest}
-use Rattle.share_blocks.proofs.Fitting.{Exact, exact}
-use Rattle.share.specs.Sharing.{hostShare, ownTests, shareTests, shareAfter}
+use Rattle.share_side.specs.Sides.{side, matrixTests}
+use Rattle.share_side.specs.Contracts.{planSide, Small, sideWeights}
+use Rattle.share_side.proofs.Sides.{plan-side, passed}
+use Rattle.share_blocks.specs.Contracts.{encoded}
+use Rattle.share_blocks.proofs.Fitting.{only-matrix}
+use Rattle.share.specs.Sharing.{point, shareOf, hostShare, shareTests, shareAfter}
+use Rattle.share.proofs.Sums.{share-exact}
 
-pub side-small : (m : Matrix) (job : Job) → Fits job → Small (side m (planOf job))
-unfolding side planOf parameters
-side-small A job f =
-    let r = f .ranged in
-    let size = sizes job f in
-    record { down = r .m .high; across = r .p .high; count = r .xa .high; masked = r .xa .low; rows = size .rows .high; columns = size .inner .high; block = f .block-a }
-side-small B job f =
-    let r = f .ranged in
-    let size = sizes job f in
-    record { down = r .p .high; across = r .n .high; count = r .xb .high; masked = r .xb .low; rows = size .inner .high; columns = size .columns .high; block = f .block-b }
+pub unless-agree : {A : Type 0} (tests own : List Test) (made other was : A) → first tests ≡ first own → (first own ≡ 0 → made ≡ other)
+    → unlessRefused tests made was ≡ unlessRefused own other was
+unfolding unlessRefused outcome
+unless-agree {A} tests own made other was e same = ap (λ (n : ℕ). outcome n made (λ k. was)) e ∙ go (first own) same
+  where
+    go : (n : ℕ) → (n ≡ 0 → made ≡ other) → outcome n made (λ k. was) ≡ outcome n other (λ k. was)
+    go zero same = same refl
+    go (suc n) same = refl
 
-pub record Passed (q hosts : ℕ) (s : Side) (host : ℕ) (xs ms : List ℕ) (room : ℕ) : Type 0 where
-  pub low : 1 ≤ host
-  pub high : host ≤ hosts
-  pub lengths : Exact s (length xs) (length ms) room
-  pub below-matrix : AllBelow q xs
-  pub below-masks : AllBelow q ms
-
-pub passed : (q hosts : ℕ) (s : Side) (host : ℕ) (xs ms : List ℕ) (room : ℕ) → first (ownTests q hosts s host xs ms room) ≡ 0
-    → Passed q hosts s host xs ms room
-unfolding ownTests
-passed q hosts s host xs ms room e =
-    let who = first-clear (outside 1 hosts host) 11 _ e in
-    let len = first-clear (lengthTest s (length xs) (length ms) room) 12 _ (who .1) in
-    let elements = first-clear (not (allBelow q xs)) 13 _ (len .1) in
-    let masks = first-clear (not (allBelow q ms)) 14 _ (elements .1) in
-    record {
-      low = inside-low 1 hosts host (who .0);
-      high = inside-high 1 hosts host (who .0);
-      lengths = exact s (length xs) (length ms) room (len .0);
-      below-matrix = all-below-test q xs (not-false (allBelow q xs) (elements .0));
-      below-masks = all-below-test q ms (not-false (allBelow q ms) (masks .0));
-    }
+-- of a side that keeps the limits, with the weights that the strides give, the encoded block is the share
+pub share-made : (m : Modulus) {strides : Strides} {g : Parameters} {e : Exponents} → Follows strides g e → (s : Side) → Small s → (x : ℕ) (w rest xs ms out : List ℕ)
+    → w ≡ sideWeights (prime m) strides s x ++ rest → AllBelow (prime m) w
+    → encoded (prime m) s w xs ms out ≡ unlessRefused (matrixTests (prime m) s xs ms (length out)) (shareOf (prime m) e s x xs ms) out
+unfolding encoded
+share-made m f s small x w rest xs ms out is below =
+    unless-agree _ _ _ _ out (only-matrix s (prime m) xs ms (length out) small) (λ z.
+    let t = passed (prime m) s xs ms (length out) z in
+    share-exact m f s small x w rest xs ms is (record { weights = below; matrix = t .below-matrix; masks = t .below-masks }))
 
 module _ (m : Matrix) (job : Job) (points : List ℕ) (host : ℕ) (xs ms out : List ℕ) where
   pub refused : (k : ℕ) → (k ≡ 0 → ⊥) → first (shareTests m job points host xs ms (length out)) ≡ k
       → (k ≡ first (shareTests m job points host xs ms (length out))) × (out ≡ shareAfter m job points host xs ms out)
   unfolding shareAfter
-  refused k ne e = (
-    sym e,
-    sym
-        (ap (λ (r : ℕ). outcome r (hostShare m job points host xs ms) (λ s. out)) e
-        ∙ outcome-refused (hostShare m job points host xs ms) (λ s. out) k ne),
-  )
+  refused k ne e = (sym e, sym (unless-refused _ _ out (λ z. ne (sym e ∙ z))))
 
-  pub done : first (shareTests m job points host xs ms (length out)) ≡ 0 → (after : List ℕ) → after ≡ hostShare m job points host xs ms
-      → (0 ≡ first (shareTests m job points host xs ms (length out))) × (after ≡ shareAfter m job points host xs ms out)
-  unfolding shareAfter
-  done e after is = (sym e, is ∙ sym (outcome-done (hostShare m job points host xs ms) (λ s. out) _ e))
+  module _ (planned : first (planTests job points) ≡ 0) where
+    pub host-refused : outside 1 (job .hosts) host ≡ true
+        → (12 ≡ first (shareTests m job points host xs ms (length out))) × (out ≡ shareAfter m job points host xs ms out)
+    unfolding shareTests
+    host-refused e = refused 12 (suc-ne-zero 11) (then-own job points _ planned ∙ first-hit (outside 1 (job .hosts) host) 12 _ e)
+
+    -- the number, and what the output holds, by the plan
+    module _ (inside : outside 1 (job .hosts) host ≡ false) (plan : Plan) (is : plan ≡ planOf job) (r : ℕ) (after : List ℕ) where
+      q : ℕ
+      q = prime (plan .modulus)
+
+      q-is : q ≡ Planning·prime job
+      unfolding q planOf
+      q-is = ap (λ (p : Plan). prime (p .modulus)) is ∙ own-prime job (facts job points planned .fits .known .is-number)
+
+      side-is : planSide m plan ≡ side m job
+      side-is = ap (planSide m) is ∙ plan-side m job
+
+      own-tests : first (shareTests m job points host xs ms (length out)) ≡ first (matrixTests q (planSide m plan) xs ms (length out))
+      unfolding shareTests
+      own-tests =
+          then-own job points _ planned
+          ∙ first-miss (outside 1 (job .hosts) host) 12 _ inside
+          ∙ ap₂ (λ (p : ℕ) (s : Side). first (matrixTests p s xs ms (length out))) (sym q-is) (sym side-is)
+
+      own-share : shareOf q (exponents (plan .layout) (plan .parameters)) (planSide m plan) (point points host) xs ms ≡ hostShare m job points host xs ms
+      unfolding hostShare planOf
+      own-share =
+          ap₂ (λ (p : ℕ) (s : Side). shareOf p (exponents (plan .layout) (plan .parameters)) s (point points host) xs ms) q-is side-is
+          ∙ ap (λ (p : Plan). shareOf (Planning·prime job) (exponents (p .layout) (p .parameters)) (side m job) (point points host) xs ms) is
+
+      pub shared : r ≡ first (matrixTests (prime (plan .modulus)) (planSide m plan) xs ms (length out))
+          → after ≡ unlessRefused (matrixTests (prime (plan .modulus)) (planSide m plan) xs ms (length out))
+          (shareOf (prime (plan .modulus)) (exponents (plan .layout) (plan .parameters)) (planSide m plan) (point points host) xs ms) out
+          → (r ≡ first (shareTests m job points host xs ms (length out))) × (after ≡ shareAfter m job points host xs ms out)
+      unfolding q shareAfter
+      shared number left = (number ∙ sym own-tests, left ∙ unless-agree _ _ _ _ out (sym own-tests) (λ z. own-share))

@@ -3,10 +3,10 @@
 --   Below q w xs ms  weights, a matrix and masks are below q
 --   weights-below    the weights are below q
 --   share-exact      the encoded block is the share
-use mathlib.Core.Path.{_≡_, ap, _∙_}
+use mathlib.Core.Path.{_≡_, ap, ap₂, _∙_}
 use mathlib.Core.List.{List, _++_, append-assoc}
 use Prim.Native.Nat.{ℕ, _+_, _*_, _%_, _^_, _<_, _≤_}
-use native.Mathlib.Nat.{le-trans, mod-lt, mul-comm, mul-le-mul, mul-le-mul-right}
+use native.Mathlib.Nat.{le-trans, mod-lt, mul-comm, mul-le-mul-right}
 use native.Mathlib.Omega.{arith}
 use lib.ListN.{length, getD, take, drop, length-take}
 use lib.Seq.{getD-drop, take-at, drop-at}
@@ -14,21 +14,26 @@ use Rattle.algebra.specs.Lists.{tab, grid, entry, AllBelow}
 use Rattle.algebra.specs.Sums.{sum}
 use Rattle.algebra.specs.Modular.{⟨_⟩_≈_}
 use Rattle.algebra.proofs.Lists.{length-tab, getD-tab, below-append, below-tab, below-drop, below-part}
-use Rattle.algebra.proofs.Grids.{grid-cong, length-grid, below-grid, row-grid}
+use Rattle.algebra.proofs.Grids.{tab-cong, grid-cong, length-grid, below-grid, row-grid}
 use Rattle.algebra.proofs.Modular.{≈-trans, ≈-of-eq, ≈-mod, ≈-add, ≈-mul}
 use Rattle.algebra.proofs.Sums.{sum-≈, sum-bound}
 use Rattle.field.specs.declared.Modulus.{Modulus}
 use Rattle.field.specs.Modulus.{prime}
 use Rattle.field.proofs.Moduli.{prime-prime, sums-fit}
+use Rattle.layout.specs.declared.Parameters.{Parameters}
+use Rattle.layout.specs.declared.Strides.{Strides}
 use Rattle.layout.specs.Exponents.{Exponents, term}
-use Rattle.sums_rows.specs.Combination.{combination}
+use Rattle.layout.specs.Contracts.{Follows}
+use Rattle.layout.proofs.Nests.{exponent-is}
+use Rattle.sums_rows.specs.Contracts.{combination}
 use Rattle.sums_rows.proofs.Exact.{combination-below}
 use Rattle.share_side.specs.declared.Side.{Side}
-use Rattle.share_side.specs.Weights.{Small, weightsOf}
-use Rattle.share_blocks.specs.Encoding.{blockTerms, maskTerms, rowSums, encodedBlock}
+use Rattle.share_side.specs.Contracts.{Small, weightCount, weight, sideWeights}
+use Rattle.share_side.proofs.Parts.{few-weights}
+use Rattle.share_blocks.specs.Contracts.{blockTerms, maskTerms, rowSums, encodedBlock}
 use Rattle.share.specs.Sharing.{blockEntry, maskEntry, shareEntry, shareOf}
 
--- a combination of n weights, of many, with rows from some place on
+-- a combination of n weights, of many, with rows from a start on
 part-bound : (q : ℕ) (w source : List ℕ) → 0 < q → AllBelow q w → AllBelow q source → (n k start stride j : ℕ)
     → combination (take n (drop k w)) (drop start source) stride j ≤ n * (q * q)
 part-bound q w source pos hw hs n k start stride j =
@@ -36,15 +41,15 @@ part-bound q w source pos hw hs n k start stride j =
     (mul-le-mul-right (q * q) (omega (arith, length-take n (drop k w))))
 
 module _ (q : ℕ) (s : Side) (w : List ℕ) (pos : 0 < q) (hw : AllBelow q w) where
-  blocks-bound : (xs : List ℕ) → AllBelow q xs → (i j : ℕ) → blockTerms s w xs i j ≤ s .down * (s .across * (q * q))
+  blocks-bound : (xs : List ℕ) → AllBelow q xs → (i j : ℕ) → blockTerms s w xs i j ≤ s .«grid_rows» * (s .«grid_columns» * (q * q))
   unfolding blockTerms
   blocks-bound xs h i j =
-      sum-bound (s .down) (s .across * (q * q)) _ (λ k l.
-      part-bound q w xs pos hw h (s .across) (k * s .across) ((k * s .rows + i) * (s .across * s .columns)) (s .columns) j)
+      sum-bound (s .«grid_rows») (s .«grid_columns» * (q * q)) _ (λ k l.
+      part-bound q w xs pos hw h (s .«grid_columns») (k * s .«grid_columns») ((k * s .«block_rows» + i) * (s .«grid_columns» * s .«block_columns»)) (s .«block_columns») j)
 
-  masks-bound : (ms : List ℕ) → AllBelow q ms → (i j : ℕ) → maskTerms s w ms i j ≤ s .count * (q * q)
+  masks-bound : (ms : List ℕ) → AllBelow q ms → (i j : ℕ) → maskTerms s w ms i j ≤ s .«mask_count» * (q * q)
   unfolding maskTerms
-  masks-bound ms h i j = part-bound q w ms pos hw h (s .count) (s .down * s .across) (i * s .columns) (s .rows * s .columns) j
+  masks-bound ms h i j = part-bound q w ms pos hw h (s .«mask_count») (s .«grid_rows» * s .«grid_columns») (i * s .«block_columns») (s .«block_rows» * s .«block_columns») j
 
 pub record Below (q : ℕ) (w xs ms : List ℕ) : Type 0 where
   pub weights : AllBelow q w
@@ -53,11 +58,11 @@ pub record Below (q : ℕ) (w xs ms : List ℕ) : Type 0 where
 
 -- at most 80 products of elements are summed
 row-fits : (m : Modulus) (s : Side) (w xs ms : List ℕ) → Small s → Below (prime m) w xs ms → (i j : ℕ) → rowSums s w xs ms i j < 2 ^ 64
-unfolding rowSums
+unfolding rowSums weightCount
 row-fits m s w xs ms small b i j =
     let q : ℕ = prime m in
     let pos : 0 < q = omega (arith, prime-prime m .above-one) in
-    let few : s .down * s .across + s .count ≤ 80 = omega (arith, mul-le-mul (small .down) (small .across), small .count) in
+    let few = few-weights s small in
     let blocks = blocks-bound q s w pos (b .weights) xs (b .matrix) i j in
     let masks = masks-bound q s w pos (b .weights) ms (b .masks) i j in
     omega (arith, sums-fit m, mul-le-mul-right (q * q) few)
@@ -73,7 +78,18 @@ weighted q n g h weights source stride j is at =
     let weight : getD weights l 0 ≡ g l % q = ap (λ (ws : List ℕ). getD ws l 0) is ∙ getD-tab (λ l. g l % q) n l 0 b in
     ≈-trans (≈-mul (≈-trans (≈-of-eq weight) (≈-mod (g l))) (≈-of-eq (at l))) (≈-of-eq (mul-comm (g l) (h l)))))
 
-module _ (q : ℕ) (e : Exponents) (s : Side) (x : ℕ) where
+-- the weights that the code makes are below q
+pub weights-below : (q : ℕ) (strides : Strides) (s : Side) (x : ℕ) (rest : List ℕ) → 0 < q → AllBelow q rest → AllBelow q (sideWeights q strides s x ++ rest)
+unfolding sideWeights
+weights-below q strides s x rest pos h =
+    let blocks = grid (weight q strides (s .blocks) x) (s .«grid_rows») (s .«grid_columns») in
+    let masks = tab (weight q strides (s .masks) x 0) (s .«mask_count») in
+    below-append q (blocks ++ masks) rest
+    (below-append q blocks masks (below-grid _ q (s .«grid_rows») (s .«grid_columns») (λ k l. mod-lt _ pos)) (below-tab q _ (s .«mask_count») (λ y. mod-lt _ pos)))
+    h
+
+-- the strides give the exponents e
+module _ (q : ℕ) {strides : Strides} {g : Parameters} {e : Exponents} (f : Follows strides g e) (s : Side) (small : Small s) (x : ℕ) where
   -- the weights of the blocks and of the masks, before and after they are reduced
   block : ℕ → ℕ → ℕ
   block k l = x ^ term e (s .blocks) k l
@@ -82,70 +98,68 @@ module _ (q : ℕ) (e : Exponents) (s : Side) (x : ℕ) where
   mask y = x ^ term e (s .masks) 0 y
 
   blocks : List ℕ
-  blocks = grid (λ k l. block k l % q) (s .down) (s .across)
+  blocks = grid (λ k l. block k l % q) (s .«grid_rows») (s .«grid_columns»)
 
   masks : List ℕ
-  masks = tab (λ y. mask y % q) (s .count)
+  masks = tab (λ y. mask y % q) (s .«mask_count»)
 
-  length-blocks : length blocks ≡ s .down * s .across
+  length-blocks : length blocks ≡ s .«grid_rows» * s .«grid_columns»
   unfolding blocks
-  length-blocks = length-grid (λ k l. block k l % q) (s .down) (s .across)
+  length-blocks = length-grid (λ k l. block k l % q) (s .«grid_rows») (s .«grid_columns»)
 
-  length-masks : length masks ≡ s .count
+  length-masks : length masks ≡ s .«mask_count»
   unfolding masks
-  length-masks = length-tab (λ y. mask y % q) (s .count)
+  length-masks = length-tab (λ y. mask y % q) (s .«mask_count»)
 
-  pub weights-below : (rest : List ℕ) → 0 < q → AllBelow q rest → AllBelow q (weightsOf q e s x ++ rest)
-  unfolding weightsOf blocks masks block mask
-  weights-below rest pos h =
-      below-append q (blocks ++ masks) rest
-      (below-append q blocks masks (below-grid _ q (s .down) (s .across) (λ k l. mod-lt _ pos)) (below-tab q _ (s .count) (λ y. mod-lt _ pos)))
-      h
-
-  module _ (w rest xs ms : List ℕ) (is : w ≡ weightsOf q e s x ++ rest) where
+  module _ (w rest xs ms : List ℕ) (is : w ≡ sideWeights q strides s x ++ rest) where
     parts : w ≡ blocks ++ (masks ++ rest)
-    unfolding weightsOf blocks masks block mask
-    parts = is ∙ append-assoc blocks masks rest
+    unfolding sideWeights blocks masks block mask
+    parts =
+        let power : ℕ → ℕ = λ n. x ^ n % q in
+        let grid-is = grid-cong _ (λ k l. block k l % q) (s .«grid_rows») (s .«grid_columns») (λ k l hk hl. ap power (exponent-is f (s .blocks) k l (omega (arith, small .grid-columns)))) in
+        let mask-is = tab-cong _ (λ y. mask y % q) (s .«mask_count») (λ y hy. ap power (exponent-is f (s .masks) 0 y (omega (arith, small .mask-count)))) in
+        is ∙ ap₂ (λ (a b : List ℕ). (a ++ b) ++ rest) grid-is mask-is ∙ append-assoc blocks masks rest
 
-    block-weights : (k : ℕ) → k < s .down → take (s .across) (drop (k * s .across) w) ≡ tab (λ l. block k l % q) (s .across)
+    block-weights : (k : ℕ) → k < s .«grid_rows» → take (s .«grid_columns») (drop (k * s .«grid_columns») w) ≡ tab (λ l. block k l % q) (s .«grid_columns»)
     unfolding blocks
     block-weights k h =
-        ap (λ (l : List ℕ). take (s .across) (drop (k * s .across) l)) parts
-        ∙ row-grid (λ k l. block k l % q) (s .down) (s .across) k (masks ++ rest) h
+        ap (λ (l : List ℕ). take (s .«grid_columns») (drop (k * s .«grid_columns») l)) parts
+        ∙ row-grid (λ k l. block k l % q) (s .«grid_rows») (s .«grid_columns») k (masks ++ rest) h
 
-    mask-weights : take (s .count) (drop (s .down * s .across) w) ≡ masks
+    mask-weights : take (s .«mask_count») (drop (s .«grid_rows» * s .«grid_columns») w) ≡ masks
     mask-weights =
-        ap (λ (l : List ℕ). take (s .count) (drop (s .down * s .across) l)) parts
-        ∙ ap (take (s .count)) (drop-at blocks (masks ++ rest) (s .down * s .across) length-blocks)
-        ∙ take-at masks rest (s .count) length-masks
+        ap (λ (l : List ℕ). take (s .«mask_count») (drop (s .«grid_rows» * s .«grid_columns») l)) parts
+        ∙ ap (take (s .«mask_count»)) (drop-at blocks (masks ++ rest) (s .«grid_rows» * s .«grid_columns») length-blocks)
+        ∙ take-at masks rest (s .«mask_count») length-masks
 
-    blocks-≈ : (i j : ℕ) → ⟨ q ⟩ blockTerms s w xs i j ≈ sum (s .down) (λ k. sum (s .across) (λ l. blockEntry s xs k l i j * block k l))
+    blocks-≈ : (i j : ℕ) → ⟨ q ⟩ blockTerms s w xs i j ≈ sum (s .«grid_rows») (λ k. sum (s .«grid_columns») (λ l. blockEntry s xs k l i j * block k l))
     unfolding blockTerms blockEntry entry
     blocks-≈ i j =
-        sum-≈ (s .down) _ _ (λ k h.
-        let start : ℕ = (k * s .rows + i) * (s .across * s .columns) in
-        weighted q (s .across) (block k) (λ l. blockEntry s xs k l i j) (take (s .across) (drop (k * s .across) w)) (drop start xs) (s .columns) j
-        (block-weights k h) (λ l. getD-drop start xs (l * s .columns + j) 0))
+        sum-≈ (s .«grid_rows») _ _ (λ k h.
+        let start : ℕ = (k * s .«block_rows» + i) * (s .«grid_columns» * s .«block_columns») in
+        weighted q (s .«grid_columns») (block k) (λ l. blockEntry s xs k l i j) (take (s .«grid_columns») (drop (k * s .«grid_columns») w)) (drop start xs) (s .«block_columns») j
+        (block-weights k h) (λ l. getD-drop start xs (l * s .«block_columns» + j) 0))
 
-    masks-≈ : (i j : ℕ) → ⟨ q ⟩ maskTerms s w ms i j ≈ sum (s .count) (λ y. maskEntry s ms y i j * mask y)
+    masks-≈ : (i j : ℕ) → ⟨ q ⟩ maskTerms s w ms i j ≈ sum (s .«mask_count») (λ y. maskEntry s ms y i j * mask y)
     unfolding maskTerms maskEntry entry masks
     masks-≈ i j =
-        let size : ℕ = s .rows * s .columns in
-        weighted q (s .count) mask (λ y. maskEntry s ms y i j) (take (s .count) (drop (s .down * s .across) w)) (drop (i * s .columns) ms) size j
+        let size : ℕ = s .«block_rows» * s .«block_columns» in
+        let row : ℕ = i * s .«block_columns» in
+        weighted q (s .«mask_count») mask (λ y. maskEntry s ms y i j) (take (s .«mask_count») (drop (s .«grid_rows» * s .«grid_columns») w)) (drop row ms) size j
         mask-weights (λ y.
-        let place : i * s .columns + (y * size + j) ≡ (y * s .rows + i) * s .columns + j = omega arith in
-        getD-drop (i * s .columns) ms (y * size + j) 0 ∙ ap (λ (k : ℕ). getD ms k 0) place)
+        let offset : row + (y * size + j) ≡ (y * s .«block_rows» + i) * s .«block_columns» + j = omega arith in
+        getD-drop row ms (y * size + j) 0 ∙ ap (λ (k : ℕ). getD ms k 0) offset)
 
     sums-≈ : (i j : ℕ) → ⟨ q ⟩ rowSums s w xs ms i j ≈ shareEntry e s x xs ms i j
     unfolding rowSums shareEntry block mask
     sums-≈ i j = ≈-add (blocks-≈ i j) (masks-≈ i j)
 
 -- the sums are not cut at 64 bits
-module _ (m : Modulus) (e : Exponents) (s : Side) (x : ℕ) (small : Small s) where
-  pub share-exact : (w rest xs ms : List ℕ) → w ≡ weightsOf (prime m) e s x ++ rest → Below (prime m) w xs ms → encodedBlock (prime m) s w xs ms ≡ shareOf (prime m) e s x xs ms
-  unfolding encodedBlock shareOf
-  share-exact w rest xs ms is below =
-      grid-cong _ (λ i j. shareEntry e s x xs ms i j % prime m) (s .rows) (s .columns) (λ i j a b.
-      let fits = row-fits m s w xs ms small below i j in
-      let whole : rowSums s w xs ms i j % 2 ^ 64 ≡ rowSums s w xs ms i j = omega arith in
-      ap (λ (n : ℕ). n % prime m) whole ∙ sums-≈ (prime m) e s x w rest xs ms is i j .same)
+pub share-exact : (m : Modulus) {strides : Strides} {g : Parameters} {e : Exponents} → Follows strides g e → (s : Side) → Small s → (x : ℕ) (w rest xs ms : List ℕ)
+    → w ≡ sideWeights (prime m) strides s x ++ rest → Below (prime m) w xs ms → encodedBlock (prime m) s w xs ms ≡ shareOf (prime m) e s x xs ms
+unfolding encodedBlock shareOf
+share-exact m {e = e} f s small x w rest xs ms is below =
+    grid-cong _ (λ i j. shareEntry e s x xs ms i j % prime m) (s .«block_rows») (s .«block_columns») (λ i j a b.
+    let fits = row-fits m s w xs ms small below i j in
+    let whole : rowSums s w xs ms i j % 2 ^ 64 ≡ rowSums s w xs ms i j = omega arith in
+    ap (λ (n : ℕ). n % prime m) whole ∙ sums-≈ (prime m) f s small x w rest xs ms is i j .same)

@@ -1,4 +1,4 @@
--- Laws of encoding: what fits, places and rows.
+-- Laws of encoding: what fits, offsets and rows.
 pub mod Fitting
-pub mod Places
+pub mod Offsets
 pub mod Rows

@@ -1,2 +1,3 @@
--- Laws of weights.
+-- Laws of sides and of their weights.
+pub mod Sides
 pub mod Parts

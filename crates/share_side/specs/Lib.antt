@@ -1,2 +1,3 @@
--- The sides of a job and their weights.
-pub mod Weights
+-- The sides of a job, and the weights of their blocks and masks.
+pub mod Sides
+pub mod Contracts

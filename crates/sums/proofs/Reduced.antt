@@ -10,7 +10,7 @@ use Rattle.algebra.specs.Lists.{tab}
 use Rattle.algebra.proofs.Lists.{length-tab, getD-tab}
 use Rattle.algebra.proofs.Grids.{tab-cong}
 use Rattle.algebra.proofs.Fronts.{front-all}
-use Rattle.sums.specs.Sums.{reduced}
+use Rattle.sums.specs.Contracts.{reduced}
 
 pub reduced-tab : (q n : ℕ) (f : ℕ → ℕ) (out : List ℕ) → length out ≡ n → reduced q (tab f n) out ≡ tab (λ j. f j % q) n
 unfolding reduced

@@ -1,2 +1,2 @@
 -- Rows of sums.
-pub mod Sums
+pub mod Contracts

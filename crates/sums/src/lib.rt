@@ -1,7 +1,7 @@
 // Rows of sums of 64 bits: set to 0 before terms are added, and reduced once, at the end.
 ghost use mathlib.Core.Path.{_≡_};
 ghost use Rattle.field.specs.Modulus.{prime};
-ghost use Rattle.sums.specs.Sums.{zeros, reduced};
+ghost use Rattle.sums.specs.Contracts.{zeros, reduced};
 use field::Modulus;
 use words::least;
 

@@ -1,2 +1,2 @@
 -- Two rows as one.
-pub mod Packing
+pub mod Contracts

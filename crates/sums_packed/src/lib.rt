@@ -1,19 +1,19 @@
 // Two rows of small numbers as one, so that the sums of their multiples are made at once.
 ghost use mathlib.Core.Path.{_≡_};
 ghost use Rattle.field.specs.Modulus.{prime};
-ghost use Rattle.sums.specs.Sums.{reduced};
-ghost use Rattle.sums_packed.specs.Packing.{pair, packed, half, halves};
+ghost use Rattle.sums.specs.Contracts.{reduced};
+ghost use Rattle.sums_packed.specs.Contracts.{pair, packed, half, halves};
 use field::Modulus;
 use words::least;
 
-// What the second number of a pair counts: more than 127 products of numbers below 257 sum to.
-const PLACE: u64 = 0x80_0000;
+// The radix of a pair: what its second number is multiplied by. 127 products of numbers below 257 sum to less.
+const RADIX: u64 = 0x80_0000;
 
 // Two numbers as one, in 32 bits.
 fn pair_of(first: u32, second: u32) -> u32
     ensures { λ r. ⌜ r ≡ pair first second ⌝ }
 {
-    ((first as u64 + PLACE * second as u64) % 0x1_0000_0000) as u32
+    ((first as u64 + RADIX * second as u64) % 0x1_0000_0000) as u32
 }
 
 // Packs two rows, the halves of a list, into one: as many pairs as have room; the rest of the output stays as it was.
@@ -33,7 +33,7 @@ pub fn pack(rows: &[u32], out: &mut [u32])
 fn half_of(upper: bool, sum: u64) -> u64
     ensures { λ r. ⌜ r ≡ half upper sum ⌝ }
 {
-    if upper { sum / PLACE } else { sum % PLACE }
+    if upper { sum / RADIX } else { sum % RADIX }
 }
 
 // The upper halves of the sums, or the lower, modulo the prime, as many as have room in the output.

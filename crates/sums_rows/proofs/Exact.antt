@@ -2,7 +2,7 @@
 --
 --   combination-bound     a combination whose terms are each at most b
 --   combination-below     a combination of elements below q
---   combination-fits      at most 4096 weights, all below a prime of ours
+--   combination-fits      at most as many weights as a block has elements, all below a prime of ours
 --   added-more            sums that are known modulo 2 ^ 64
 --   added-exact           sums that stay below it
 --   added-zeros           the same, from sums that are all 0
@@ -16,11 +16,12 @@ use Rattle.algebra.specs.Lists.{tab, entry, AllBelow}
 use Rattle.algebra.proofs.Lists.{length-tab, getD-tab, below-anywhere}
 use Rattle.algebra.proofs.Grids.{tab-cong}
 use Rattle.algebra.proofs.Sums.{sum-bound}
+use Rattle.refusal.specs.Limits.{mostElements}
 use Rattle.field.specs.declared.Modulus.{Modulus}
 use Rattle.field.specs.Modulus.{prime}
 use Rattle.field.proofs.Moduli.{prime-prime, sums-fit}
-use Rattle.sums.specs.Sums.{zeros}
-use Rattle.sums_rows.specs.Combination.{combination, added}
+use Rattle.sums.specs.Contracts.{zeros}
+use Rattle.sums_rows.specs.Contracts.{combination, added}
 
 module _ (weights source : List ℕ) (stride : ℕ) where
   pub combination-bound : (j b : ℕ) → ((i : ℕ) → i < length weights → getD weights i 0 * entry stride source i j ≤ b)
@@ -33,7 +34,7 @@ module _ (weights source : List ℕ) (stride : ℕ) where
   combination-below j q pos hw hs =
       combination-bound j (q * q) (λ i l. mul-le-mul (le-of-lt (hw i l)) (le-of-lt (below-anywhere q source pos hs (i * stride + j))))
 
-  pub combination-fits : (m : Modulus) (j : ℕ) → length weights ≤ 4096 → AllBelow (prime m) weights → AllBelow (prime m) source
+  pub combination-fits : (m : Modulus) (j : ℕ) → length weights ≤ mostElements → AllBelow (prime m) weights → AllBelow (prime m) source
       → combination weights source stride j < 2 ^ 64
   combination-fits m j few hw hs =
       let pos = prime-prime m .above-one in

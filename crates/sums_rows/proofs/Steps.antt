@@ -6,7 +6,7 @@
 --   rowTerm                   a weight times its row: row k begins k strides into the source
 --   one-row, all-rows         one row more, and every row
 --   plus-twice                two rows, one after the other
---   rest-clipped              a list from some place on, clipped at its end
+--   rest-clipped              a list from some offset on, clipped at its end
 --   rest-more                 what is left of the source after one more row, clipped at its end
 --   rest-short                it is no longer than the source
 use mathlib.Core.Path.{_≡_, refl, sym, ap, _∙_}
@@ -22,7 +22,7 @@ use Rattle.algebra.specs.Sums.{sum}
 use Rattle.algebra.proofs.Orders.{le-or-lt}
 use Rattle.algebra.proofs.Lists.{length-tab, getD-tab, rest-is}
 use Rattle.algebra.proofs.Grids.{tab-cong}
-use Rattle.sums_rows.specs.Combination.{plus, combination, added}
+use Rattle.sums_rows.specs.Contracts.{plus, combination, added}
 
 module _ (sums : List ℕ) (f : ℕ → ℕ → ℕ) where
   unfoldable pub sumsTo : ℕ → List ℕ

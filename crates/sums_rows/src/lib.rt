@@ -2,8 +2,7 @@
 ghost use mathlib.Core.Path.{_≡_};
 ghost use Prim.Native.Nat.{_≤_};
 ghost use lib.ListN.{length};
-ghost use Rattle.sums_rows.specs.Combination.{plus, added};
-use refusal::either;
+ghost use Rattle.sums_rows.specs.Contracts.{plus, added};
 use std::num::wrapping_add_u64;
 use words::least;
 use words::wide_product;
@@ -38,7 +37,7 @@ fn add_two_rows(sums: &mut [u64], weight: u32, row: &[u32], second: u32, next: &
 pub fn add_pair(sums: &mut [u64], weight: u32, row: &[u32], second: u32, next: &[u32])
     ensures { λ _. ⌜ now (sums .exit) ≡ plus (plus (now (sums .entry)) weight (now (row .entry))) second (now (next .entry)) ⌝ }
 {
-    if either(row.len() < sums.len(), next.len() < sums.len()) {
+    if (row.len() < sums.len()) | (next.len() < sums.len()) {
         add_row(sums, weight, row);
         add_row(sums, second, next);
     } else {

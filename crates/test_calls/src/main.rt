@@ -1,17 +1,17 @@
 // Runs shares, products, messages and signed reading on many inputs: cases come from standard input, one after another, and
-// their answers go to standard output. The cases and the answers are those of the separate Rust program in docs/src, whose file calls.rs tells
-// the format of both.
+// what they return goes to standard output. Both are those of the separate Rust program, whose docs/src/calls/format.rs tells their
+// format.
 ghost use mathlib.Core.Path.{_≡_};
 ghost use Prim.Native.Nat.{_≤_};
 ghost use lib.ListN.{length};
 ghost use Rattle.io.specs.Counts.{Counts};
-use message_header::Header;
-use message_header::Reading;
-use libc::STDOUT_FILENO;
-use plan::Job;
 use field_signed::Element;
 use field_signed::Signed;
-use share_side::Matrix;
+use libc::STDOUT_FILENO;
+use message::Parsed;
+use message_header::Header;
+use plan::Job;
+use share::Matrix;
 
 // Where the lists of a case end, one after another.
 struct Ends {
@@ -133,11 +133,11 @@ fn run_product(head: [u32; HEAD_WORDS], a: &[u32], b: &[u32], out: &mut [u32]) -
     product::product(head[1], head[2], head[3], head[4], a, b, out)
 }
 
-// Writes what reading a message answers: 0 and the fields, or the refusal number.
-fn put_reading(reading: Reading) {
-    match reading {
-        Reading::Refused(number) => test_io::put_number(number),
-        Reading::Done(h) => test_io::put_words(
+// Writes what reading a message returns: 0 and the fields, or the refusal number.
+fn put_parsed(parsed: Parsed) {
+    match parsed {
+        Parsed::Refused(number) => test_io::put_number(number),
+        Parsed::Fields(h) => test_io::put_words(
             &[0, h.kind, h.modulus, h.host, h.rows, h.columns, h.number],
         ),
     }
@@ -160,9 +160,9 @@ fn bits_of(value: i64) -> u64 {
     value as u64
 }
 
-// Writes what signed reading answers: 0 and the two words of the value, or the refusal number.
-fn put_signed(answer: Signed) {
-    match answer {
+// Writes what signed reading returns: 0 and the two words of the value, or the refusal number.
+fn put_signed(outcome: Signed) {
+    match outcome {
         Signed::Refused(number) => test_io::put_number(number),
         Signed::Value(value) => {
             let bits = bits_of(value);
@@ -171,9 +171,9 @@ fn put_signed(answer: Signed) {
     }
 }
 
-// Writes what the way back answers: 0 and the element, or the refusal number.
-fn put_element(answer: Element) {
-    match answer {
+// Writes what the way back returns: 0 and the element, or the refusal number.
+fn put_element(outcome: Element) {
+    match outcome {
         Element::Refused(number) => test_io::put_number(number),
         Element::Value(v) => test_io::put_words(&[0, v]),
     }
@@ -198,7 +198,7 @@ fn run_call(
         1 => test_io::put_number(run_share(Matrix::A, head, points, xs, ys, out)),
         2 => test_io::put_number(run_share(Matrix::B, head, points, xs, ys, out)),
         3 => test_io::put_number(run_product(head, xs, ys, out)),
-        5 => put_reading(message::read_message(message, out)),
+        5 => put_parsed(message::read_message(message, out)),
         6 => put_signed(field_signed::signed_reading(head[1], head[2])),
         7 => put_element(run_way_back(head)),
         _ => return false,
@@ -207,7 +207,7 @@ fn run_call(
 }
 
 // Answers a case with an output of elements; false where there is no such call or its output is too long.
-fn answer_call(
+fn run_call(
     head: [u32; HEAD_WORDS],
     points: &[u32],
     xs: &[u32],
@@ -227,7 +227,7 @@ fn answer_call(
 }
 
 // Answers a case of a message to write; false where its output is too long.
-fn answer_write(head: [u32; HEAD_WORDS], xs: &[u32]) -> bool {
+fn run_write(head: [u32; HEAD_WORDS], xs: &[u32]) -> bool {
     let room = head[17] as usize;
     if MOST_BYTES < room {
         return false;
@@ -247,7 +247,7 @@ fn answer_write(head: [u32; HEAD_WORDS], xs: &[u32]) -> bool {
     true
 }
 
-// Reads the message of a case and answers it; false where it is over the limits, or the input ends in it.
+// Reads the message of a case and runs it; false where it is over the limits, or the input ends in it.
 fn run_message(head: [u32; HEAD_WORDS], points: &[u32], xs: &[u32], ys: &[u32]) -> bool {
     let count = head[16] as usize;
     let mut message = filled_message();
@@ -257,9 +257,9 @@ fn run_message(head: [u32; HEAD_WORDS], points: &[u32], xs: &[u32], ys: &[u32]) 
     }
     let call = head[0];
     if call == 4 {
-        return answer_write(head, xs);
+        return run_write(head, xs);
     }
-    answer_call(head, points, xs, ys, &message[..n])
+    run_call(head, points, xs, ys, &message[..n])
 }
 
 // Answers a case with these lists; false where it is over the limits, or the input ended in it.
@@ -274,7 +274,7 @@ fn run_lists(head: [u32; HEAD_WORDS], lists: &[u32]) -> bool {
     run_message(head, &lists[..points], &lists[points..xs], &lists[xs..ys])
 }
 
-// Reads the lists of a case and answers it; false where it is over the limits, or the input ends in it.
+// Reads the lists of a case and runs it; false where it is over the limits, or the input ends in it.
 fn run_case(head: [u32; HEAD_WORDS]) -> bool {
     let ends = ends_of(head[13], head[14], head[15]);
     let mut lists = list_words();

@@ -4,11 +4,11 @@ ghost use mathlib.Core.Path.{_≡_};
 ghost use Prim.Native.Nat.{_<_, _≤_};
 ghost use lib.ListN.{length};
 use arrival::Arrived;
-use message_header::Header;
 use libc::STDOUT_FILENO;
+use message_header::Header;
 use plan::Job;
+use share::Matrix;
 use std::num::wrapping_add_u32;
-use share_side::Matrix;
 use words::least;
 
 // The hosts, and how many answers are needed.
@@ -68,7 +68,7 @@ fn fill(seed: u32, out: &mut [u32])
 }
 
 // The points 3, 10, 17 and so on, as many as there is room for.
-fn place_points(out: &mut [u32])
+fn set_points(out: &mut [u32])
     requires { ⌜ length (now out) ≤ 20 ⌝ }
 {
     let mut x = 3;
@@ -136,11 +136,11 @@ fn answer_all(
 ) -> u32
     requires { ⌜ length (now messages) ≡ 640 ⌝ }
 {
-    let mut place: usize = 0;
-    while place < HOSTS {
-        let start = place * MESSAGE;
+    let mut index: usize = 0;
+    while index < HOSTS {
+        let start = index * MESSAGE;
         let end = start + MESSAGE;
-        let host = place as u32 + 1;
+        let host = index as u32 + 1;
         let number = answer(
             host,
             points,
@@ -153,7 +153,7 @@ fn answer_all(
         if number != 0 {
             return number;
         }
-        place += 1;
+        index += 1;
     }
     0
 }
@@ -179,26 +179,26 @@ fn arrive_twice(points: &[u32], heard: u64, store: &mut [u32], message: &[u8]) -
     }
 }
 
-// Lets the message of the host at a place arrive where the host is in the set; tells the hosts heard then.
+// Lets the message of the host at a index arrive where the host is in the set; tells the hosts heard then.
 fn hear(
     set: u64,
-    place: usize,
+    index: usize,
     points: &[u32],
     heard: u64,
     store: &mut [u32],
     messages: &[u8],
 ) -> u64
-    requires { ⌜ place < 20 × length (now messages) ≡ 640 ⌝ }
+    requires { ⌜ index < 20 × length (now messages) ≡ 640 ⌝ }
 {
-    if !arrival_heard::is_heard(set, place as u32) {
+    if !arrival_heard::is_heard(set, index as u32) {
         return heard;
     }
-    let start = place * MESSAGE;
+    let start = index * MESSAGE;
     let end = start + MESSAGE;
     arrive_twice(points, heard, store, &messages[start..end])
 }
 
-// Lets the messages of a set of hosts arrive, from a host on and so many places further each time; tells the hosts heard.
+// Lets the messages of a set of hosts arrive, from a host on and so many hosts further each time; tells the hosts heard.
 fn hear_set(
     set: u64,
     from: usize,
@@ -210,11 +210,11 @@ fn hear_set(
     requires { ⌜ from < 20 × step < 20 × length (now messages) ≡ 640 ⌝ }
 {
     let mut heard = 0;
-    let mut place = from;
+    let mut index = from;
     let mut i = 0;
     while i < HOSTS {
-        heard = hear(set, place, points, heard, store, messages);
-        place = (place + step) % HOSTS;
+        heard = hear(set, index, points, heard, store, messages);
+        index = (index + step) % HOSTS;
         i += 1;
     }
     heard
@@ -331,7 +331,7 @@ fn main() {
     let mut a = [0u32; ELEMENTS];
     let mut b = [0u32; ELEMENTS];
     let mut expected = [0u32; ELEMENTS];
-    place_points(&mut points);
+    set_points(&mut points);
     fill(11, &mut a);
     fill(200, &mut b);
     product::product(2, 4, 4, 4, &a, &b, &mut expected);

@@ -10,7 +10,8 @@ use native.Mathlib.Omega.{arith}
 use lib.ListN.{length, take, drop, length-append}
 use lib.Seq.{length-take-le, drop-at, drop-append-add, drop-drop}
 use Rattle.io.specs.Counts.{Counts}
-use Rattle.message_bytes.specs.Bytes.{elementsOf, common}
+use Rattle.message_bytes.specs.Bytes.{elementsOf}
+use Rattle.message_bytes.specs.Contracts.{common}
 use Rattle.message_bytes.proofs.Words.{length-elements}
 
 pub counts : (n : ℕ) (xs : List ℕ) → n ≤ length xs → Counts n xs

@@ -1,2 +1,2 @@
--- Laws for the proofs of `case_io`.
+-- Laws for the proofs of `test_io`.
 pub mod Counts

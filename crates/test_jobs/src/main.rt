@@ -1,6 +1,6 @@
-// Runs whole jobs on many inputs: calls of arrivals and decodings come from standard input, one after another, and their
-// answers go to standard output. The calls and the answers are those of the separate Rust program in docs/src, whose file
-// jobs.rs tells the format of both.
+// Runs whole jobs on many inputs: calls of arrivals and decodings come from standard input, one after another, and what
+// they return goes to standard output. Both are those of the separate Rust program, whose docs/src/jobs/format.rs tells their
+// format.
 ghost use mathlib.Core.Path.{_≡_};
 ghost use lib.ListN.{length};
 use arrival::Arrived;
@@ -41,7 +41,7 @@ fn heard_of(high: u32, low: u32) -> u64 {
     high as u64 * 0x1_0000_0000 + low as u64
 }
 
-// Writes what an arrival answers: its number, and the hosts heard after it.
+// Writes what an arrival returns: its number, and the hosts heard after it.
 fn put_arrived(number: u32, heard: u64) {
     let high = (heard / 0x1_0000_0000) as u32;
     let low = (heard % 0x1_0000_0000) as u32;

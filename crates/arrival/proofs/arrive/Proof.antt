@@ -2,13 +2,14 @@
 use mathlib.Core.Path.{_≡_, sym, ap, ap₂, _∙_}
 use Prim.Native.Nat.{_*_, _≤_}
 use native.Mathlib.Omega.{arith}
+use lib.ListN.{length}
 use borrow.Author.Needs.{needs}
 use Rattle.refusal.specs.Chain.{first}
 use Rattle.plan.specs.declared.Plan.{Plan}
 use Rattle.plan.specs.Planning.{blockRows, blockColumns, planOf, planTests}
 use Rattle.plan.proofs.Facts.{Fits, facts, planned-facts}
-use Rattle.arrival.specs.Arriving.{answerLength}
-use Rattle.arrival.proofs.Outcomes.{refused, told-plan, told-state}
+use Rattle.arrival.specs.Arriving.{answerLength, stateTests}
+use Rattle.arrival.proofs.Outcomes.{by-plan, by-state, passed-on, exact}
 use Rattle.arrival.proofs.arrive.Statement.{statement}
 use Rattle.arrival.proofs.arrive.Tie as tie
 
@@ -62,21 +63,23 @@ returns c =
     let p = c .before .before .before .before in
     let a = start p .args in
     let told = c .before .state-refusal in
-    refused (a .job) (a .points .now) (a .heard) (a .store .now) (a .message .now) (told .result) (c .if1 .taken)
-    (told-state (a .job) (a .points .now) (a .heard) (a .store .now) (a .message .now) (accepted p .0) (told .result) (c .if1 .taken) (sym (told .ensures)))
+    by-state (a .job) (a .points .now) (a .heard) (a .store .now) (a .message .now) (accepted p .0) (told .result) (c .if1 .taken) (sym (told .ensures))
+
+-- the hosts heard and the store have passed
+state-clear : (e : tie.Else1) → first (stateTests (start (e .before .before .before .before) .args .job) (start (e .before .before .before .before) .args .heard) (length (start (e .before .before .before .before) .args .store .now))) ≡ 0
+state-clear e = sym (e .before .state-refusal .ensures) ∙ e .if1 .left
 
 take-message-requires : tie.Need-take-message-requires
 take-message-requires c κs =
     let e = c .before in
     let p = e .before .before .before .before in
-    (rows-is p, columns-is p, small p, fits p .hosts-high, sym (e .before .state-refusal .ensures) ∙ e .if1 .left)
+    (rows-is p, columns-is p, small p, fits p .hosts-high, exact _ _ _ (state-clear e))
 
 returns-2 : tie.Need-returns-2
 returns-2 c =
     let p = c .before in
     let a = p .before .before .before .before .before .before .args in
-    let told = told-plan (a .job) (a .points .now) (a .heard) (a .store .now) (a .message .now) (sym (p .before .before .plan-job .ensures) ∙ p .planned .given .1) in
-    refused (a .job) (a .points .now) (a .heard) (a .store .now) (a .message .now) _ (told .1) (told .0)
+    by-plan (a .job) (a .points .now) (a .heard) (a .store .now) (a .message .now) (sym (p .before .before .plan-job .ensures) ∙ p .planned .given .1)
 
 same-length : tie.Need-same-length
 same-length c = search needs
@@ -84,8 +87,9 @@ same-length c = search needs
 returns-3 : tie.Need-returns-3
 returns-3 c =
     let t = c .before .before in
-    let p = t .before .before .before .before .before .before in
-    t .take-message .ensures (start p .args .points .now) (accepted p .0)
+    let e = t .before .before in
+    let on = passed-on _ _ _ _ _ (accepted (e .before .before .before .before) .0) (state-clear e) in
+    (t .take-message .ensures .0 ∙ on .0, t .take-message .ensures .1 ∙ on .1)
 
 pub arrive-spec : {M : Type 1} → statement M
 arrive-spec =

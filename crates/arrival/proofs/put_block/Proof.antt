@@ -45,7 +45,7 @@ returns c =
     let e = r .before .before .before .before .before in
     let a = e .args in
     let pre = e .pre in
-    put-part (a .message .now) (a .store .now) (a .size) (a .place) (pre .0) (pre .1) (pre .2) _ _ (add-sub-cancel-left (a .place * a .size) (a .size))
+    put-part (a .message .now) (a .store .now) (a .size) (a .index) (pre .0) (pre .1) (pre .2) _ _ (add-sub-cancel-left (a .index * a .size) (a .size))
     (r .read-elements .ensures)
 
 pub put-block-spec : {M : Type 1} → statement M

@@ -8,7 +8,7 @@ use Rattle.arrival_heard.proofs.is_heard.Statement.{statement}
 use Rattle.arrival_heard.proofs.is_heard.Tie as tie
 
 returns : tie.Need-returns
-returns c = let a = c .before .args in sym (not-above (a .heard) 64 (a .place) (omega arith) (omega arith))
+returns c = let a = c .before .args in sym (not-above (a .heard) 64 (a .index) (omega arith) (omega arith))
 
 shr-result : tie.Need-shr-result
 shr-result c = search needs

@@ -9,10 +9,10 @@ use Rattle.arrival_heard.proofs.lowest_heard.Statement.{statement}
 use Rattle.arrival_heard.proofs.lowest_heard.Tie as tie
 
 abbrev Inv-loop : tie.InvT-loop
-Inv-loop heard out₀ n₀ place₀ out n place = record { short : place ≤ 64; so-far : Found heard out₀ out n place }
+Inv-loop heard out₀ n₀ index₀ out n index = record { short : index ≤ 64; so-far : Found heard out₀ out n index }
 
 abbrev μ-loop : tie.MeasureT-loop
-μ-loop heard out₀ n₀ place₀ out n place = 64 - place
+μ-loop heard out₀ n₀ index₀ out n index = 64 - index
 
 loop-holds : tie.Need-loop-holds Inv-loop μ-loop
 loop-holds c = let a = c .before .args in record { short = omega arith; so-far = found-none (a .heard) (a .out .now) }
@@ -29,8 +29,8 @@ slice-write-out c = omega arith
 add-n : tie.Need-add-n Inv-loop μ-loop
 add-n c = omega arith
 
-add-place : tie.Need-add-place Inv-loop μ-loop
-add-place c = omega arith
+add-index : tie.Need-add-index Inv-loop μ-loop
+add-index c = omega arith
 
 loop-less : tie.Need-loop-less Inv-loop μ-loop
 loop-less c = omega arith
@@ -43,10 +43,10 @@ loop-again c =
     record {
       short = omega arith;
       so-far = ⊎-elim
-          (λ w. rw (w .3, w .4) (found-more (a .heard) (a .out .now) (l .loop .out) (l .loop .n) (l .loop .place) so-far (sym (w .1 .ensures) ∙ w .2 .taken) (omega arith)))
+          (λ w. rw (w .3, w .4) (found-more (a .heard) (a .out .now) (l .loop .out) (l .loop .n) (l .loop .index) so-far (sym (w .1 .ensures) ∙ w .2 .taken) (omega arith)))
           (⊎-elim
-          (λ w. rw (w .3, w .4) (found-skip (a .heard) (a .out .now) (l .loop .out) (l .loop .n) (l .loop .place) so-far (sym (w .1 .ensures) ∙ w .2 .left)))
-          (λ w. rw (w .1, w .2) (found-full (a .heard) (a .out .now) (l .loop .out) (l .loop .n) (l .loop .place) so-far (omega arith))))
+          (λ w. rw (w .3, w .4) (found-skip (a .heard) (a .out .now) (l .loop .out) (l .loop .n) (l .loop .index) so-far (sym (w .1 .ensures) ∙ w .2 .left)))
+          (λ w. rw (w .1, w .2) (found-full (a .heard) (a .out .now) (l .loop .out) (l .loop .n) (l .loop .index) so-far (omega arith))))
           (c .if1 .came);
     }
 
@@ -57,7 +57,7 @@ returns : tie.Need-returns Inv-loop μ-loop
 returns c =
     let l = c .before in
     let a = l .before .before .args in
-    let all : l .loop .place ≡ 64 = omega arith in
+    let all : l .loop .index ≡ 64 = omega arith in
     found-all (a .heard) (a .out .now) (l .loop .out) (l .loop .n) (rw all at (l .loop .inv .so-far))
 
 pub lowest-heard-spec : {M : Type 1} → statement M
@@ -71,7 +71,7 @@ lowest-heard-spec =
     mul-out
     slice-write-out
     add-n
-    add-place
+    add-index
     loop-less
     loop-again
     same-length

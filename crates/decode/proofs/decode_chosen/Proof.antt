@@ -1,176 +1,130 @@
 -- `decode::decode_chosen` meets its contract.
-use mathlib.Core.Path.{_≡_, refl, sym, ap, _∙_}
+use mathlib.Core.Path.{sym}
 use Prim.Native.Nat.{ℕ, _*_, _≤_}
+use native.Mathlib.Nat.{mul-le-mul}
 use native.Mathlib.Omega.{arith}
-use borrow.Author.Needs.{needs}
-use lib.ListN.{length, getD, take, replicate, length-map}
+use lib.Dec.{ltb}
+use lib.ListN.{length}
 use lib.Seq.{length-take-le}
-use Rattle.algebra.proofs.Places.{pointsAt}
-use Rattle.field.specs.Modulus.{prime}
-use Rattle.decode_table.specs.declared.Shape.{Shape}
-use Rattle.decode_table.specs.Pieces.{blockCount}
-use Rattle.layout.specs.Exponents.{exponents}
-use Rattle.plan.specs.declared.Plan.{Plan}
-use Rattle.plan.specs.Planning.{parameters, neededOf, planOf}
-use Rattle.plan.proofs.Facts.{Facts}
-use Rattle.decode.specs.Decoding.{chosen}
-use Rattle.decode.specs.Weights.{shape, weightsOf}
-use Rattle.decode.proofs.Outcomes.{rooms, Passed, known, told, chosen-are, lowest-are, within, roomy-for, decoded-is}
+use borrow.Author.Needs.{needs}
+use borrow.Author.Tests.{ltb-false}
+use Rattle.algebra.proofs.Tests.{or-left, or-right}
+use Rattle.decode_table.specs.Contracts.{blockCount}
+use Rattle.decode.specs.Contracts.{shape}
 use Rattle.decode.proofs.decode_chosen.Statement.{statement}
 use Rattle.decode.proofs.decode_chosen.Tie as tie
 
--- what the tests tell
 module _ (s : tie.Start) where
-  planned : Facts (s .args .job) (s .args .points .now)
-  planned = known (s .args .job) (s .args .points .now) (s .args .heard) (s .args .store .now) (length (s .args .table .now)) (s .pre .1)
+  -- how many blocks and weights there are
+  abbrev blocks : ℕ
+  blocks = s .args .plan .parameters .m * s .args .plan .parameters .n
 
-  passed : Passed (s .args .job) (s .args .heard) (s .args .store .now) (length (s .args .table .now))
-  passed = told (s .args .job) (s .args .points .now) (s .args .heard) (s .args .store .now) (length (s .args .table .now)) (s .pre .1)
+  abbrev count : ℕ
+  count = length (s .args .points .now) * blocks
 
-  needed-is : s .args .plan .needed ≡ neededOf (s .args .job)
-  unfolding planOf
-  needed-is = ap (λ (p : Plan). p .needed) (s .pre .0)
+  small : blocks ≤ 64
+  unfolding blockCount shape
+  small = s .pre .0 .small
 
-  few : s .args .plan .needed ≤ 64
-  few = rooms (s .args .job) (s .args .plan) (planned .fits) (s .pre .0) .hosts
+  most : count ≤ 4096
+  most = mul-le-mul (s .pre .0 .few) small
 
-  -- the shape that the code makes
-  made : Shape
-  made = record { down = s .args .job .m; across = s .args .job .n; rows = s .args .plan .rows; columns = s .args .plan .columns }
+cast-count : tie.Need-cast-count
+cast-count c = search needs
 
-  made-is : made ≡ shape (s .args .plan)
-  unfolding made shape planOf parameters
-  made-is = ap (λ (p : Plan). record { down = s .args .job .m; across = s .args .job .n; rows = p .rows; columns = p .columns }) (s .pre .0) ∙ ap shape (sym (s .pre .0))
+cast-count-2 : tie.Need-cast-count-2
+cast-count-2 c = search needs
 
-cast-t16 : tie.Need-cast-t16
-cast-t16 c = omega arith
+mul-count : tie.Need-mul-count
+mul-count c = let m = small (c .before .before .before .before .before .before .before) in omega arith
 
-cast-t17 : tie.Need-cast-t17
-cast-t17 c = omega arith
+mul-count-2 : tie.Need-mul-count-2
+mul-count-2 c = let m = most (c .before .before .before .before .before .before .before) in omega arith
 
-cast-t18 : tie.Need-cast-t18
-cast-t18 c = omega arith
+cast-columns : tie.Need-cast-columns
+cast-columns c = search needs
 
-cast-t19 : tie.Need-cast-t19
-cast-t19 c = omega arith
+-- where the call starts
+abbrev start : tie.After-struct-known3 → tie.Start
+start c = c .before .before .before .before .before .before .before .before
 
-cast-needed : tie.Need-cast-needed
-cast-needed c = omega arith
+array-borrow-prefix-weight-room : tie.Need-array-borrow-prefix-weight-room
+array-borrow-prefix-weight-room c = most (start (c .before))
 
-array-borrow-prefix-place-room : tie.Need-array-borrow-prefix-place-room
-array-borrow-prefix-place-room c = few (c .before .before .before .before .before .before .before .before .before .before)
+slice-aggregate-weights : tie.Need-slice-aggregate-weights
+slice-aggregate-weights c = sym (length-take-le _ _ (most (start (c .before .before))))
 
-slice-aggregate-places : tie.Need-slice-aggregate-places
-slice-aggregate-places c = sym (length-take-le _ _ (few (c .before .before .before .before .before .before .before .before .before .before .before)))
+array-borrow-prefix-sum-room : tie.Need-array-borrow-prefix-sum-room
+array-borrow-prefix-sum-room c = start (c .before .before) .pre .1
 
-array-borrow-prefix-point-room : tie.Need-array-borrow-prefix-point-room
-array-borrow-prefix-point-room c = few (c .before .before .before .before .before .before .before .before .before .before .before)
+slice-aggregate-sums : tie.Need-slice-aggregate-sums
+slice-aggregate-sums c = sym (length-take-le _ _ (start (c .before .before .before) .pre .1))
 
-slice-aggregate-chosen : tie.Need-slice-aggregate-chosen
-slice-aggregate-chosen c = sym (length-take-le _ _ (few (c .before .before .before .before .before .before .before .before .before .before .before .before)))
+decode-lent-requires : tie.Need-decode-lent-requires
+unfolding blockCount shape
+decode-lent-requires c κs =
+    let s = start (c .before .before .before .before) in
+    (s .pre .0, length-take-le _ _ (most s), length-take-le _ _ (s .pre .1))
 
-lowest-heard-requires : tie.Need-lowest-heard-requires
-lowest-heard-requires c κs = search needs
-
--- the places are those of the chosen hosts
-abbrev start : tie.After-lowest-heard → tie.Start
-start c = c .before .before .before .before .before .before .before .before .before .before .before .before .before .before
-
-places-are : (c : tie.After-lowest-heard) → c .lowest-heard .last .1 .0 ≡ chosen (start c .args .job) (start c .args .heard)
-places-are c =
-    let s = start c in
-    let a = s .args in
-    let size : length (take (a .plan .needed) (replicate {A = ℕ} 64 0)) ≡ neededOf (a .job) = length-take-le (a .plan .needed) (replicate 64 0) (few s) ∙ needed-is s in
-    c .lowest-heard .ensures ∙ lowest-are (a .job) (a .points .now) (a .heard) (a .store .now) (length (a .table .now)) (planned s) (passed s) (take (a .plan .needed) (replicate 64 0)) size
-
-places-length : (c : tie.After-lowest-heard) → length (c .lowest-heard .last .1 .0) ≡ start c .args .plan .needed
-places-length c =
-    let s = start c in
-    let a = s .args in
-    ap length (places-are c)
-    ∙ chosen-are (a .job) (a .points .now) (a .heard) (a .store .now) (length (a .table .now)) (planned s) (passed s) .count
-    ∙ sym (needed-is s)
-
-points-at-requires : tie.Need-points-at-requires
-points-at-requires c κs =
-    let l = c .before .before .before .before in
-    let s = start l in
-    let a = s .args in (
-      within (a .job) (a .points .now) (a .heard) (a .store .now) (length (a .table .now)) (planned s) (passed s) (a .plan) (s .pre .0) _ (places-are l),
-      length-take-le (a .plan .needed) (replicate 64 0) (few s) ∙ sym (places-length l),
+-- there are few weights and columns
+few : (e : tie.Else1) → (count (start (e .before)) ≤ 256) × (start (e .before) .args .plan .columns ≤ 64)
+few e =
+    let s = start (e .before) in
+    let columns = s .args .plan .columns in (
+      ltb-false 256 (count s) (or-left (ltb 256 (count s)) (ltb 64 columns) (e .if1 .left)),
+      ltb-false 64 columns (or-right (ltb 256 (count s)) (ltb 64 columns) (e .if1 .left)),
     )
 
--- the points are theirs
-abbrev places : tie.After-points-at → tie.After-lowest-heard
-places c = c .before .before .before .before .before
+array-borrow-prefix-weight-room-2 : tie.Need-array-borrow-prefix-weight-room-2
+array-borrow-prefix-weight-room-2 c = few c .0
 
-points-length : (c : tie.After-points-at) → length (c .points-at .last .1 .1 .0) ≡ length (places c .lowest-heard .last .1 .0)
-points-length c = ap length (c .points-at .ensures) ∙ length-map (places c .lowest-heard .last .1 .0) (λ h. getD (start (places c) .args .points .now) h 0)
+slice-aggregate-weights-2 : tie.Need-slice-aggregate-weights-2
+slice-aggregate-weights-2 c = sym (length-take-le _ _ (few (c .before) .0))
 
-decoding-weights-requires : tie.Need-decoding-weights-requires
-decoding-weights-requires c κs =
-    let p = c .before .before .before .before in
-    let l = places p in
-    let s = start l in
-    let a = s .args in
-    let count = points-length p ∙ places-length l in (
-      roomy-for (a .job) (a .points .now) (a .heard) (a .store .now) (length (a .table .now)) (planned s) (passed s) (a .plan) (s .pre .0) _ (places-are l) (p .points-at .last .1 .1 .0) (points-length p),
-      s .pre .2 ∙ ap (λ (n : ℕ). n * blockCount (shape (a .plan))) (sym count),
-    )
+array-borrow-prefix-sum-room-2 : tie.Need-array-borrow-prefix-sum-room-2
+array-borrow-prefix-sum-room-2 c = few (c .before) .1
 
--- the weights are theirs
-abbrev points : tie.After-decoding-weights → tie.After-points-at
-points c = c .before .before .before .before .before
+slice-aggregate-sums-2 : tie.Need-slice-aggregate-sums-2
+slice-aggregate-sums-2 c = sym (length-take-le _ _ (few (c .before .before) .1))
 
-weights-are : (c : tie.After-decoding-weights)
-    → c .decoding-weights .last .1 .1 .0
-    ≡ weightsOf (prime (start (places (points c)) .args .plan .modulus)) (exponents (start (places (points c)) .args .plan .layout) (start (places (points c)) .args .plan .parameters)) (shape (start (places (points c)) .args .plan))
-    (pointsAt (start (places (points c)) .args .points .now) (places (points c) .lowest-heard .last .1 .0))
-weights-are c =
-    let plan = start (places (points c)) .args .plan in
-    c .decoding-weights .ensures ∙ ap (weightsOf (prime (plan .modulus)) (exponents (plan .layout) (plan .parameters)) (shape plan)) (points c .points-at .ensures)
-
-table-pieces-requires : tie.Need-table-pieces-requires
-table-pieces-requires c κs = search needs
+decode-lent-requires-2 : tie.Need-decode-lent-requires-2
+unfolding blockCount shape
+decode-lent-requires-2 c κs =
+    let e = c .before .before .before in
+    (start (e .before) .pre .0, length-take-le _ _ (few e .0), length-take-le _ _ (few e .1))
 
 same-length : tie.Need-same-length
 same-length c = search needs
 
+returns : tie.Need-returns
+returns c = search needs
+
 same-length-2 : tie.Need-same-length-2
 same-length-2 c = search needs
 
-same-length-3 : tie.Need-same-length-3
-same-length-3 c = search needs
-
-returns : tie.Need-returns
-unfolding made
-returns c =
-    let t = c .before .before .before .before .before in
-    let d = t .before .before .before .before .before .before .before .before in
-    let l = places (points d) in
-    let s = start l in
-    let a = s .args in
-    t .table-pieces .ensures .0
-    ∙ decoded-is (a .job) (a .points .now) (a .heard) (a .store .now) (length (a .table .now)) (planned s) (passed s) (a .plan) (s .pre .0) _ (places-are l) (made s) (made-is s) _ (weights-are d) (length (a .sums .now)) (s .pre .3) (a .table .now) refl
+returns-2 : tie.Need-returns-2
+returns-2 c = search needs
 
 pub decode-chosen-spec : {M : Type 1} → statement M
 decode-chosen-spec =
     tie.close
     (tie.spec
-    cast-t16
-    cast-t17
-    cast-t18
-    cast-t19
-    cast-needed
-    array-borrow-prefix-place-room
-    slice-aggregate-places
-    array-borrow-prefix-point-room
-    slice-aggregate-chosen
-    lowest-heard-requires
-    points-at-requires
-    decoding-weights-requires
-    table-pieces-requires
+    cast-count
+    cast-count-2
+    mul-count
+    mul-count-2
+    cast-columns
+    array-borrow-prefix-weight-room
+    slice-aggregate-weights
+    array-borrow-prefix-sum-room
+    slice-aggregate-sums
+    decode-lent-requires
+    array-borrow-prefix-weight-room-2
+    slice-aggregate-weights-2
+    array-borrow-prefix-sum-room-2
+    slice-aggregate-sums-2
+    decode-lent-requires-2
     same-length
+    returns
     same-length-2
-    same-length-3
-    returns)
+    returns-2)

@@ -10,28 +10,28 @@ use Rattle.algebra.proofs.Places.{points-tab}
 use Rattle.decode.proofs.points_at.Statement.{statement}
 use Rattle.decode.proofs.points_at.Tie as tie
 
--- the point of the host at place number c
+-- the point that index number c names
 abbrev point : List ℕ → List ℕ → ℕ → ℕ
-point points places c = getD points (getD places c 0) 0
+point points indices c = getD points (getD indices c 0) 0
 
 abbrev Inv-loop : tie.InvT-loop
-Inv-loop points places out₀ c₀ out c =
-    record { is : out ≡ tab (point points places) c ++ drop c out₀; short : c ≤ length places; same : length out ≡ length out₀ }
+Inv-loop points indices out₀ c₀ out c =
+    record { is : out ≡ tab (point points indices) c ++ drop c out₀; short : c ≤ length indices; same : length out ≡ length out₀ }
 
 abbrev μ-loop : tie.MeasureT-loop
-μ-loop points places out₀ c₀ out c = length places - c
+μ-loop points indices out₀ c₀ out c = length indices - c
 
 loop-holds : tie.Need-loop-holds Inv-loop μ-loop
 loop-holds c = record { is = front-none _ (c .args .out .now); short = omega arith; same = refl }
 
-mul-place : tie.Need-mul-place Inv-loop μ-loop
-mul-place c = omega arith
+mul-index : tie.Need-mul-index Inv-loop μ-loop
+mul-index c = omega arith
 
-shared-slice-read-place : tie.Need-shared-slice-read-place Inv-loop μ-loop
-shared-slice-read-place c = omega arith
+shared-slice-read-index : tie.Need-shared-slice-read-index Inv-loop μ-loop
+shared-slice-read-index c = omega arith
 
-cast-place : tie.Need-cast-place Inv-loop μ-loop
-cast-place c = omega (arith, c .shared-slice-known .given (c .before .before .loop .c))
+cast-index : tie.Need-cast-index Inv-loop μ-loop
+cast-index c = omega (arith, c .shared-slice-known .given (c .before .before .loop .c))
 
 mul-out : tie.Need-mul-out Inv-loop μ-loop
 mul-out c = omega (arith, c .shared-slice-known .given (c .before .before .loop .c))
@@ -56,7 +56,7 @@ loop-again c =
     let l = c .before .before .before in
     let a = l .before .args in
     record {
-      is = front-more (point (a .points .now) (a .places .now)) (a .out .now) (l .loop .out) (l .loop .c) (omega arith) (l .loop .inv .is);
+      is = front-more (point (a .points .now) (a .indices .now)) (a .out .now) (l .loop .out) (l .loop .c) (omega arith) (l .loop .inv .is);
       short = omega arith;
       same = simp length-set (l .loop .inv .same);
     }
@@ -68,12 +68,12 @@ returns : tie.Need-returns Inv-loop μ-loop
 returns c =
     let l = c .before in
     let a = l .before .args in
-    let f = point (a .points .now) (a .places .now) in
-    let all : l .loop .c ≡ length (a .places .now) = omega arith in
+    let f = point (a .points .now) (a .indices .now) in
+    let all : l .loop .c ≡ length (a .indices .now) = omega arith in
     l .loop .inv .is
     ∙ ap (λ (k : ℕ). tab f k ++ drop k (a .out .now)) all
-    ∙ front-all f (a .out .now) (length (a .places .now)) (omega arith)
-    ∙ points-tab (a .points .now) (a .places .now)
+    ∙ front-all f (a .out .now) (length (a .indices .now)) (omega arith)
+    ∙ points-tab (a .points .now) (a .indices .now)
 
 pub points-at-spec : {M : Type 1} → statement M
 points-at-spec =
@@ -82,9 +82,9 @@ points-at-spec =
     Inv-loop
     μ-loop
     loop-holds
-    mul-place
-    shared-slice-read-place
-    cast-place
+    mul-index
+    shared-slice-read-index
+    cast-index
     mul-out
     shared-slice-read-out
     mul-out-2

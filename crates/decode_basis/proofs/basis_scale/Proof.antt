@@ -6,7 +6,7 @@ use lib.ListN.{length, getD, drop}
 use Rattle.algebra.specs.Modular.{inverse}
 use Rattle.field.specs.Modulus.{prime}
 use Rattle.field.proofs.Moduli.{prime-small}
-use Rattle.decode_basis.specs.Basis.{basisScale}
+use Rattle.decode_basis.specs.Contracts.{basisScale}
 use Rattle.decode_basis.proofs.Steps.{residue-below, scale-none, scale-skip, scale-more}
 use borrow.Author.Needs.{needs}
 use Rattle.decode_basis.proofs.basis_scale.Statement.{statement}

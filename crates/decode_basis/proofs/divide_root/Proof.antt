@@ -6,7 +6,7 @@ use lib.ListN.{length, drop, set, length-set}
 use Rattle.algebra.specs.Lists.{tab}
 use Rattle.algebra.proofs.Fronts.{back-none, back-more}
 use Rattle.field.specs.Modulus.{prime}
-use Rattle.decode_basis.specs.Basis.{quotient}
+use Rattle.decode_basis.specs.Contracts.{quotient}
 use Rattle.decode_basis.proofs.Steps.{after, after-none, after-more}
 use borrow.Author.Needs.{needs}
 use Rattle.decode_basis.proofs.divide_root.Statement.{statement}

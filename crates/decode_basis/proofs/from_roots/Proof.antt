@@ -6,7 +6,7 @@ use lib.ListN.{length, drop}
 use Rattle.algebra.proofs.Lists.{length-tab}
 use Rattle.field.specs.Modulus.{prime}
 use Rattle.field.proofs.Moduli.{prime-prime}
-use Rattle.decode_basis.specs.Basis.{coefficients, product}
+use Rattle.decode_basis.specs.Contracts.{coefficients, rootProduct}
 use Rattle.decode_basis.proofs.Steps.{length-coefficients, product-none, product-more}
 use borrow.Author.Needs.{needs}
 use Rattle.decode_basis.proofs.from_roots.Statement.{statement}
@@ -14,7 +14,7 @@ use Rattle.decode_basis.proofs.from_roots.Tie as tie
 
 abbrev Inv-loop : tie.InvT-loop
 Inv-loop modulus points out₀ i₀ out i =
-    record { is : out ≡ coefficients (prime modulus) (product (prime modulus) (drop i points)) (length out₀); short : i ≤ length points }
+    record { is : out ≡ coefficients (prime modulus) (rootProduct (prime modulus) (drop i points)) (length out₀); short : i ≤ length points }
 
 abbrev μ-loop : tie.MeasureT-loop
 μ-loop modulus points out₀ i₀ out i = i
@@ -35,7 +35,7 @@ loop-holds c =
       is =
           s .set-one .ensures
           ∙ product-none q (a .points .now) (length (a .out .now)) (prime-prime (a .modulus) .above-one)
-          ∙ ap (coefficients q (product q (drop (length (a .points .now)) (a .points .now)))) (sym (room s));
+          ∙ ap (coefficients q (rootProduct q (drop (length (a .points .now)) (a .points .now)))) (sym (room s));
       short = omega arith;
     }
 
@@ -81,7 +81,7 @@ returns c =
     let q = prime (a .modulus) in
     let all : l .loop .i ≡ 0 = omega arith in
     l .loop .inv .is
-    ∙ ap₂ (λ (i n : ℕ). coefficients q (product q (drop i (a .points .now))) n) all (room s)
+    ∙ ap₂ (λ (i n : ℕ). coefficients q (rootProduct q (drop i (a .points .now))) n) all (room s)
 
 pub from-roots-spec : {M : Type 1} → statement M
 from-roots-spec =

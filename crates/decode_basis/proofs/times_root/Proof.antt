@@ -10,7 +10,7 @@ use Rattle.algebra.specs.Polynomials.{addRoot}
 use Rattle.algebra.proofs.Fronts.{front-none, front-more, front-old, front-all}
 use Rattle.algebra.proofs.Division.{getD-addRoot}
 use Rattle.field.specs.Modulus.{prime}
-use Rattle.decode_basis.specs.Basis.{coefficients}
+use Rattle.decode_basis.specs.Contracts.{coefficients}
 use Rattle.decode_basis.proofs.Steps.{residue-below}
 use borrow.Author.Needs.{needs}
 use Rattle.decode_basis.proofs.times_root.Statement.{statement}

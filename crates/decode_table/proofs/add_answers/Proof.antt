@@ -7,22 +7,22 @@ use borrow.Author.Needs.{needs}
 use lib.ListN.{length, getD, drop}
 use lib.Seq.{getD-drop}
 use Rattle.algebra.specs.Lists.{entry}
-use Rattle.sums_rows.specs.Combination.{plus}
-use Rattle.decode_table.specs.Pieces.{answerTerms}
+use Rattle.sums_rows.specs.Contracts.{plus}
+use Rattle.decode_table.specs.Contracts.{answerTerms, answersAdded}
 use Rattle.sums_rows.proofs.Steps.{sumsTo, length-sums, sums-none, sums-more}
 use Rattle.decode_table.proofs.add_answers.Statement.{statement}
 use Rattle.decode_table.proofs.add_answers.Tie as tie
 
--- what the answer at place number c adds at v
+-- what the answer of index number c adds at v
 abbrev term : List ℕ → ℕ → List ℕ → List ℕ → ℕ → ℕ → ℕ → ℕ
-term weights step places source size c v = getD weights (c * step) 0 * entry size source (getD places c 0) v
+term weights step indices source size c v = getD weights (c * step) 0 * entry size source (getD indices c 0) v
 
 abbrev Inv-loop : tie.InvT-loop
-Inv-loop sums₀ weights step places source size c₀ sums c =
-    record { is : sums ≡ sumsTo sums₀ (term weights step places source size) c; short : c ≤ length places }
+Inv-loop sums₀ weights step indices source size c₀ sums c =
+    record { is : sums ≡ sumsTo sums₀ (term weights step indices source size) c; short : c ≤ length indices }
 
 abbrev μ-loop : tie.MeasureT-loop
-μ-loop sums₀ weights step places source size c₀ sums c = length places - c
+μ-loop sums₀ weights step indices source size c₀ sums c = length indices - c
 
 loop-holds : tie.Need-loop-holds Inv-loop μ-loop
 loop-holds c =
@@ -33,23 +33,23 @@ loop-holds c =
 abbrev start : tie.In-loop Inv-loop μ-loop → tie.Start Inv-loop μ-loop
 start c = c .before .before .before .before .before .before
 
--- the weight of place number k is there
-there : (c : tie.In-loop Inv-loop μ-loop) (k : ℕ) → k < length (start c .args .places .now) → k * start c .args .step < length (start c .args .weights .now)
+-- the weight of index number k is there
+there : (c : tie.In-loop Inv-loop μ-loop) (k : ℕ) → k < length (start c .args .indices .now) → k * start c .args .step < length (start c .args .weights .now)
 there c k l = start c .pre .weight k l
 
 -- one more answer is added
 one-more : (c : tie.In-loop Inv-loop μ-loop) (k : ℕ) (now answer : List ℕ)
-    → now ≡ sumsTo (start c .args .sums .now) (term (start c .args .weights .now) (start c .args .step) (start c .args .places .now) (start c .args .source .now) (start c .args .size)) k
-    → answer ≡ drop (getD (start c .args .places .now) k 0 * start c .args .size) (start c .args .source .now)
+    → now ≡ sumsTo (start c .args .sums .now) (term (start c .args .weights .now) (start c .args .step) (start c .args .indices .now) (start c .args .source .now) (start c .args .size)) k
+    → answer ≡ drop (getD (start c .args .indices .now) k 0 * start c .args .size) (start c .args .source .now)
     → plus now (getD (start c .args .weights .now) (k * start c .args .step) 0) answer
-    ≡ sumsTo (start c .args .sums .now) (term (start c .args .weights .now) (start c .args .step) (start c .args .places .now) (start c .args .source .now) (start c .args .size)) (k + 1)
+    ≡ sumsTo (start c .args .sums .now) (term (start c .args .weights .now) (start c .args .step) (start c .args .indices .now) (start c .args .source .now) (start c .args .size)) (k + 1)
 unfolding entry
 one-more c k now answer is e =
     let a = start c .args in
-    let at = getD (a .places .now) k 0 * a .size in
+    let at = getD (a .indices .now) k 0 * a .size in
     let weight = getD (a .weights .now) (k * a .step) 0 in
     ap (plus now weight) e
-    ∙ sums-more (a .sums .now) (term (a .weights .now) (a .step) (a .places .now) (a .source .now) (a .size)) now (drop at (a .source .now)) weight k is
+    ∙ sums-more (a .sums .now) (term (a .weights .now) (a .step) (a .indices .now) (a .source .now) (a .size)) now (drop at (a .source .now)) weight k is
     (λ v. ap (λ (x : ℕ). weight * x) (getD-drop at (a .source .now) v 0))
 
 mul-weight : tie.Need-mul-weight Inv-loop μ-loop
@@ -139,7 +139,7 @@ loop-again-2 c =
     let i = first .before .before .before in
     let a = start i .args in
     let l = i .before .loop in
-    let f = term (a .weights .now) (a .step) (a .places .now) (a .source .now) (a .size) in
+    let f = term (a .weights .now) (a .step) (a .indices .now) (a .source .now) (a .size) in
     let answer = first .answer-at .result .now in
     let next = second .answer-at2 .result .now in
     let once = one-more i (l .c) (l .sums) answer (l .inv .is) (first .answer-at .ensures) in
@@ -162,12 +162,12 @@ same-length c =
     ap length (l .loop .inv .is) ∙ length-sums (a .sums .now) _ (l .loop .c)
 
 returns : tie.Need-returns Inv-loop μ-loop
-unfolding answerTerms sumsTo
+unfolding answerTerms answersAdded sumsTo
 returns c =
     let l = c .before in
     let a = l .before .before .before .before .before .args in
-    let all : l .loop .c ≡ length (a .places .now) = omega arith in
-    l .loop .inv .is ∙ ap (sumsTo (a .sums .now) (term (a .weights .now) (a .step) (a .places .now) (a .source .now) (a .size))) all
+    let all : l .loop .c ≡ length (a .indices .now) = omega arith in
+    l .loop .inv .is ∙ ap (sumsTo (a .sums .now) (term (a .weights .now) (a .step) (a .indices .now) (a .source .now) (a .size))) all
 
 pub add-answers-spec : {M : Type 1} → statement M
 add-answers-spec =

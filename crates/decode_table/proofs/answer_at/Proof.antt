@@ -10,7 +10,7 @@ use Rattle.decode_table.proofs.answer_at.Tie as tie
 mul-least : tie.Need-mul-least
 mul-least c =
     let e = c .before in
-    let low : e .args .place ≤ 4294967296 = omega arith in
+    let low : e .args .index ≤ 4294967296 = omega arith in
     omega (arith, mul-le-mul low (e .pre))
 
 least-requires : tie.Need-least-requires
@@ -29,7 +29,7 @@ part-result-end : tie.Need-part-result-end
 part-result-end c = search needs
 
 returns : tie.Need-returns
-returns c = let a = c .before .before .before .args in rest-clipped (a .source .now) (a .place * a .size) (c .before .least .result) (c .before .least .ensures)
+returns c = let a = c .before .before .before .args in rest-clipped (a .source .now) (a .index * a .size) (c .before .least .result) (c .before .least .ensures)
 
 pub answer-at-spec : {M : Type 1} → statement M
 answer-at-spec =

@@ -8,7 +8,7 @@ use borrow.Author.Needs.{needs}
 use borrow.Author.Tests.{not-true, not-false}
 use Rattle.algebra.specs.Lists.{tab}
 use Rattle.field.specs.Modulus.{prime}
-use Rattle.sums.specs.Sums.{zeros}
+use Rattle.sums.specs.Contracts.{zeros}
 use Rattle.decode_table.proofs.Fits.{fit-told, table-made, table-stays}
 use Rattle.decode_table.proofs.table_pieces.Statement.{statement}
 use Rattle.decode_table.proofs.table_pieces.Tie as tie
@@ -25,7 +25,7 @@ put-pieces-requires c κs =
     let t = c .before .before in
     let m = t .before in
     let a = start m .args in
-    let fit = fit-told (a .s) (length (a .places .now)) (length (a .weights .now)) (length (a .sums .now)) (length (a .table .now)) (sym (m .misfit .ensures) ∙ not-true _ (t .if1 .taken)) in
+    let fit = fit-told (a .s) (length (a .indices .now)) (length (a .weights .now)) (length (a .sums .now)) (length (a .table .now)) (sym (m .misfit .ensures) ∙ not-true _ (t .if1 .taken)) in
     (record { sized = fit .sized; each = fit .each }, fit .wide, fit .long)
 
 clear-requires : tie.Need-clear-requires
@@ -55,11 +55,11 @@ returns c =
     let q = prime (a .modulus) in
     ⊎-elim
     (λ w. (
-      w .9 ∙ w .3 .ensures ∙ table-made q (a .s) (a .places .now) (a .weights .now) (a .store .now) (length (a .sums .now)) (a .table .now) (sym (m .misfit .ensures) ∙ not-true _ (w .0 .taken)),
+      w .9 ∙ w .3 .ensures ∙ table-made q (a .s) (a .indices .now) (a .weights .now) (a .store .now) (length (a .sums .now)) (a .table .now) (sym (m .misfit .ensures) ∙ not-true _ (w .0 .taken)),
       clear .clear .ensures ∙ ap (tab (λ (k : ℕ). 0)) (same-sums j),
     ))
     (λ w. (
-      w .2 ∙ table-stays q (a .s) (a .places .now) (a .weights .now) (a .store .now) (length (a .sums .now)) (a .table .now) (sym (m .misfit .ensures) ∙ not-false _ (w .0 .left)),
+      w .2 ∙ table-stays q (a .s) (a .indices .now) (a .weights .now) (a .store .now) (length (a .sums .now)) (a .table .now) (sym (m .misfit .ensures) ∙ not-false _ (w .0 .left)),
       clear .clear .ensures ∙ ap (tab (λ (k : ℕ). 0)) (same-sums j),
     ))
     (j .if1 .came)

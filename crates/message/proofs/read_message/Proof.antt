@@ -6,11 +6,10 @@ use lib.ListN.{length}
 use borrow.Author.Needs.{needs}
 use Rattle.refusal.specs.Chain.{first}
 use Rattle.message_header.proofs.Fields.{ranged}
-use Rattle.message_header.proofs.Outcomes.{done-told, refused-told}
 use Rattle.message.specs.Format.{messageTests, examined}
 use Rattle.message.proofs.Fields.{readable}
 use Rattle.message.proofs.Parts.{read-part}
-use Rattle.message.proofs.Outcomes.{read-short, read-long, read-done, kept-short, kept}
+use Rattle.message.proofs.Outcomes.{fields-told, refused-told, read-short, read-long, read-done, kept-short, kept}
 use Rattle.message.proofs.read_message.Statement.{statement}
 use Rattle.message.proofs.read_message.Tie as tie
 
@@ -29,7 +28,7 @@ enum-told c = search needs
 -- the message was looked over and not refused
 accepted : (c : tie.After-enum-told) → first (messageTests (c .before .before .before .before .before .before .args .message .now)) ≡ 0
 unfolding examined
-accepted c = done-told _ _ (sym (c .before .before .examine .ensures) ∙ c .enum-told .given .1) .0
+accepted c = fields-told _ _ (sym (c .before .before .examine .ensures) ∙ c .enum-told .given .1) .0
 
 long : (c : tie.After-enum-told) → 16 ≤ length (c .before .before .before .before .before .before .args .message .now)
 long c = readable (c .before .before .before .before .before .before .args .message .now) (accepted c) .head .long

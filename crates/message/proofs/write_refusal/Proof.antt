@@ -1,121 +1,99 @@
 -- `message::write_refusal` meets its contract.
 use mathlib.Core.Path.{_≡_, sym, ap, _∙_}
-use mathlib.Core.Bool.{false, not, true≢false}
+use mathlib.Core.Bool.{not}
 use native.Mathlib.Omega.{arith}
-use lib.ListN.{length}
 use borrow.Author.Needs.{needs}
 use Rattle.refusal.specs.Chain.{first}
-use Rattle.field.proofs.Moduli.{none-named}
+use Rattle.refusal.proofs.Chains.{first-none, first-hit, first-miss, first-append-hit}
+use Rattle.field.specs.declared.Named.the-variants.{Is}
+use Rattle.field.specs.Modulus.{named}
 use Rattle.message_header.specs.Header.{elementCount, fieldTests}
-use Rattle.message_header.proofs.Fields.{Ranged, ranged}
-use Rattle.message.specs.Format.{elementTest, writeLengthTest}
-use Rattle.message.proofs.Tests.{element-named, write-fields, write-length, write-element, write-none}
+use Rattle.message_header.proofs.Fields.{ranged}
+use Rattle.message_header.proofs.Outcomes.{fit-told, check-told}
+use Rattle.message.specs.Format.{elementTest, writeTests}
+use Rattle.message.proofs.Tests.{element-named, past-fields}
 use Rattle.message.proofs.write_refusal.Statement.{statement}
 use Rattle.message.proofs.write_refusal.Tie as tie
 
-field-refusal-requires : tie.Need-field-refusal-requires
-field-refusal-requires c κs = search needs
+check-fields-requires : tie.Need-check-fields-requires
+check-fields-requires c κs = search needs
 
-returns : tie.Need-returns
-returns c =
-    let a = c .before .before .before .args in
-    let fields = c .before .field-refusal in
-    sym (write-fields (a .h) (a .xs .now) (a .room) (fields .result) (c .if1 .taken) (sym (fields .ensures)))
+enum-known-checked : tie.Need-enum-known-checked
+enum-known-checked c = search needs
 
-fields-passed : (c : tie.Else1) → first (fieldTests (c .before .before .before .args .h)) ≡ 0
-fields-passed c = sym (c .before .field-refusal .ensures) ∙ c .if1 .left
+enum-known-checked-2 : tie.Need-enum-known-checked-2
+enum-known-checked-2 c = search needs
 
-modulus-named-requires : tie.Need-modulus-named-requires
-modulus-named-requires c κs = search needs
+-- where the call starts, once the fields have passed
+abbrev start : tie.After-checked2 → tie.Start
+start k = k .before .before .before .before
 
-enum-known-modulus : tie.Need-enum-known-modulus
-enum-known-modulus c = search needs
-
-enum-told : tie.Need-enum-told
-enum-told c = search needs
-
--- the tests of the fields have found a modulus number
-returns-2 : tie.Need-returns-2
-returns-2 c =
-    let m = c .before .before in
-    let h = m .before .before .before .before .args .h in
-    let unknown = none-named (h .modulus) (sym (m .modulus-named .ensures) ∙ c .enum-told .given .1) in
-    absurd (true≢false (sym unknown ∙ ranged h (fields-passed (m .before)) .known))
-
-in-range : (c : tie.After-struct-known) → Ranged (c .before .before .before .before .before .before .before .before .args .h)
-in-range c = ranged _ (fields-passed (c .before .before .before .before .before))
+-- the fields have passed, and this is their modulus
+fit : (k : tie.After-checked2) → (first (fieldTests (start k .args .h)) ≡ 0) × (named (start k .args .h .modulus) ≡ Is (k .checked2 .given .0 .0))
+fit k = fit-told _ (sym (k .before .before .check-fields .ensures) ∙ k .checked2 .given .1)
 
 mul-count : tie.Need-mul-count
 unfolding elementCount
-mul-count c = let r = in-range c in omega arith
+mul-count c = let r = ranged _ (fit (c .before .before) .0) in omega arith
 
 cast-count : tie.Need-cast-count
 unfolding elementCount
-cast-count c = let r = in-range c in omega arith
+cast-count c = let r = ranged _ (fit (c .before .before) .0) in omega arith
 
-mul-either : tie.Need-mul-either
+mul-if1 : tie.Need-mul-if1
 unfolding elementCount
-mul-either c = let r = in-range c in omega arith
+mul-if1 c = let r = ranged _ (fit (c .before .before) .0) in omega arith
 
-add-either : tie.Need-add-either
+add-if1 : tie.Need-add-if1
 unfolding elementCount
-add-either c = let r = in-range c in omega arith
+add-if1 c = let r = ranged _ (fit (c .before .before) .0) in omega arith
 
-either-requires : tie.Need-either-requires
-either-requires c κs = search needs
-
-returns-3 : tie.Need-returns-3
-unfolding writeLengthTest elementCount
-returns-3 c =
-    let s = c .before .before in
-    let a = s .before .before .before .before .before .before .before .before .args in
-    sym (write-length (a .h) (a .xs .now) (a .room) (fields-passed (s .before .before .before .before .before))
-    (sym (c .before .either .ensures) ∙ c .if2 .taken))
+returns : tie.Need-returns
+unfolding elementCount
+returns c = let k = c .before .before .before in sym (past-fields _ _ _ (fit k .0) ∙ first-hit _ 13 _ (c .if1 .taken))
 
 all-below-requires : tie.Need-all-below-requires
 all-below-requires c κs = search needs
 
-lengths-passed : (c : tie.Else2) → writeLengthTest (c .before .before .before .before .before .before .before .before .before .before .args .h) (length (c .before .before .before .before .before .before .before .before .before .before .args .xs .now)) (c .before .before .before .before .before .before .before .before .before .before .args .room) ≡ false
-unfolding writeLengthTest elementCount
-lengths-passed c = sym (c .before .either .ensures) ∙ c .if2 .left
-
 -- what the test of the elements tells
-elements-told : (c : tie.After-all-below) → elementTest (c .before .before .before .before .before .before .before .before .before .before .before .args .h .modulus) (c .before .before .before .before .before .before .before .before .before .before .before .args .xs .now) ≡ not (c .all-below .result)
-elements-told c =
-    let m = c .before .before .before .before .before in
-    let a = c .before .before .before .before .before .before .before .before .before .before .before .args in
-    element-named (a .h .modulus) (a .xs .now) (sym (m .before .before .modulus-named .ensures) ∙ m .modulus .given .1) ∙ ap not (sym (c .all-below .ensures))
+elements-told : (c : tie.After-all-below) → elementTest (start (c .before .before .before .before) .args .h .modulus) (start (c .before .before .before .before) .args .xs .now)
+    ≡ not (c .all-below .result)
+elements-told c = element-named _ _ (fit (c .before .before .before .before) .1) ∙ ap not (sym (c .all-below .ensures))
+
+returns-2 : tie.Need-returns-2
+unfolding elementCount
+returns-2 c =
+    let e = c .before .before in
+    let k = e .before .before .before in
+    sym (past-fields _ _ _ (fit k .0) ∙ first-miss _ 13 _ (e .if1 .left) ∙ first-hit _ 14 _ (elements-told (c .before) ∙ c .if2 .taken))
+
+returns-3 : tie.Need-returns-3
+unfolding writeTests
+returns-3 c =
+    let k = c .before .before .before in
+    let told = check-told _ (sym (k .check-fields .ensures) ∙ c .before .checked .given .1) in
+    sym (first-append-hit (fieldTests _) _ _ (told .1) (told .0))
 
 returns-4 : tie.Need-returns-4
+unfolding elementCount
 returns-4 c =
     let e = c .before .before in
-    let a = e .before .before .before .before .before .before .before .before .before .before .args in
-    sym (write-element (a .h) (a .xs .now) (a .room) (fields-passed (e .before .before .before .before .before .before .before)) (lengths-passed e)
-    (elements-told (c .before) ∙ c .if3 .taken))
-
-returns-5 : tie.Need-returns-5
-returns-5 c =
-    let e = c .before .before in
-    let a = e .before .before .before .before .before .before .before .before .before .before .args in
-    sym (write-none (a .h) (a .xs .now) (a .room) (fields-passed (e .before .before .before .before .before .before .before)) (lengths-passed e)
-    (elements-told (c .before) ∙ c .if3 .left))
+    let k = e .before .before .before in
+    sym (past-fields _ _ _ (fit k .0) ∙ first-miss _ 13 _ (e .if1 .left) ∙ first-miss _ 14 _ (elements-told (c .before) ∙ c .if2 .left) ∙ first-none)
 
 pub write-refusal-spec : {M : Type 1} → statement M
 write-refusal-spec =
     tie.close
     (tie.spec
-    field-refusal-requires
-    returns
-    modulus-named-requires
-    enum-known-modulus
-    enum-told
-    returns-2
+    check-fields-requires
+    enum-known-checked
+    enum-known-checked-2
     mul-count
     cast-count
-    mul-either
-    add-either
-    either-requires
-    returns-3
+    mul-if1
+    add-if1
+    returns
     all-below-requires
-    returns-4
-    returns-5)
+    returns-2
+    returns-3
+    returns-4)

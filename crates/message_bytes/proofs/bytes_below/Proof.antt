@@ -8,7 +8,7 @@ use lib.ListN.{length, take}
 use Rattle.algebra.specs.Lists.{allBelow}
 use Rattle.algebra.proofs.Lists.{below-none, below-more, below-all, below-stop}
 use Rattle.message_bytes.specs.Bytes.{elementsOf}
-use Rattle.message_bytes.proofs.Words.{length-elements, element-at, Four, four}
+use Rattle.message_bytes.proofs.Words.{length-elements, element-is}
 use Rattle.message_bytes.proofs.bytes_below.Statement.{statement}
 use Rattle.message_bytes.proofs.bytes_below.Tie as tie
 
@@ -26,46 +26,20 @@ loop-holds c =
     let bytes = c .before .before .args .bytes .now in
     record { short = omega arith; enough = omega arith; below = below-none (c .prime-of .result) (elementsOf (length bytes / 4) bytes) }
 
--- the four bytes of element i are there
-word-bytes : (c : tie.In-loop Inv-loop μ-loop) → Four (c .before .loop .i) (length (c .before .before .before .before .args .bytes .now))
-word-bytes c =
-    four _ _ _ (c .loop-test .taken) (c .before .loop .inv .enough) (c .before .before .before .before .good .1 .0 .0)
+mul-element-at : tie.Need-mul-element-at Inv-loop μ-loop
+mul-element-at c = omega arith
 
-mul-at : tie.Need-mul-at Inv-loop μ-loop
-mul-at c = word-bytes c .at-fits
-
-shared-slice-read-word : tie.Need-shared-slice-read-word Inv-loop μ-loop
-shared-slice-read-word c = word-bytes (c .before) .first
-
-add-word : tie.Need-add-word Inv-loop μ-loop
-add-word c = word-bytes (c .before) .one-fits
-
-shared-slice-read-word-2 : tie.Need-shared-slice-read-word-2 Inv-loop μ-loop
-shared-slice-read-word-2 c = word-bytes (c .before .before) .second
-
-add-word-2 : tie.Need-add-word-2 Inv-loop μ-loop
-add-word-2 c = word-bytes (c .before .before) .two-fits
-
-shared-slice-read-word-3 : tie.Need-shared-slice-read-word-3 Inv-loop μ-loop
-shared-slice-read-word-3 c = word-bytes (c .before .before .before) .third
-
-add-word-3 : tie.Need-add-word-3 Inv-loop μ-loop
-add-word-3 c = word-bytes (c .before .before .before) .three-fits
-
-shared-slice-read-word-4 : tie.Need-shared-slice-read-word-4 Inv-loop μ-loop
-shared-slice-read-word-4 c = word-bytes (c .before .before .before .before) .fourth
-
-word-requires : tie.Need-word-requires Inv-loop μ-loop
-word-requires c κs = search needs
+element-at-requires : tie.Need-element-at-requires Inv-loop μ-loop
+element-at-requires c κs = omega arith
 
 returns : tie.Need-returns Inv-loop μ-loop
 returns c =
-    let l = c .before .before .before .before .before .before .before in
+    let l = c .before .before .before in
     let bytes = l .before .before .before .args .bytes .now in
     let n = length bytes / 4 in
-    let here = element-at n bytes (l .loop .i) (omega arith) in
+    let here = element-is n bytes (l .loop .i) (omega arith) in
     rw (← l .before .prime-of .ensures)
-    (sym (below-stop (l .before .prime-of .result) (elementsOf n bytes) (l .loop .i) (omega (arith, length-elements n bytes)) (omega (arith, here, c .before .word .ensures))))
+    (sym (below-stop (l .before .prime-of .result) (elementsOf n bytes) (l .loop .i) (omega (arith, length-elements n bytes)) (omega (arith, here, c .before .element-at .ensures))))
 
 add-i : tie.Need-add-i Inv-loop μ-loop
 add-i c = omega arith
@@ -75,16 +49,16 @@ loop-less c = omega arith
 
 loop-again : tie.Need-loop-again Inv-loop μ-loop
 loop-again c =
-    let l = c .before .before .before .before .before .before .before in
+    let l = c .before .before .before in
     let bytes = l .before .before .before .args .bytes .now in
     let n = length bytes / 4 in
-    let here = element-at n bytes (l .loop .i) (omega arith) in
+    let here = element-is n bytes (l .loop .i) (omega arith) in
     record {
       short = omega arith;
       enough = l .loop .inv .enough;
       below =
           below-more (l .before .prime-of .result) (elementsOf n bytes) (l .loop .i) (omega (arith, length-elements n bytes)) (l .loop .inv .below)
-          (omega (arith, here, c .before .word .ensures));
+          (omega (arith, here, c .before .element-at .ensures));
     }
 
 returns-2 : tie.Need-returns-2 Inv-loop μ-loop
@@ -103,15 +77,8 @@ bytes-below-spec =
     μ-loop
     prime-of-requires
     loop-holds
-    mul-at
-    shared-slice-read-word
-    add-word
-    shared-slice-read-word-2
-    add-word-2
-    shared-slice-read-word-3
-    add-word-3
-    shared-slice-read-word-4
-    word-requires
+    mul-element-at
+    element-at-requires
     returns
     add-i
     loop-less

@@ -1,5 +1,5 @@
 -- `message_bytes::read_elements` meets its contract.
-use mathlib.Core.Path.{_≡_, refl, sym, ap, _∙_}
+use mathlib.Core.Path.{_≡_, refl, ap, _∙_}
 use mathlib.Core.List.{List, _++_}
 use Prim.Native.Nat.{ℕ, _-_, _*_, _/_, _≤_}
 use native.Mathlib.Nat.{min-le-left, min-le-right}
@@ -8,14 +8,14 @@ use borrow.Author.Needs.{needs}
 use lib.ListN.{length, drop, set, length-set}
 use Rattle.algebra.specs.Lists.{tab}
 use Rattle.algebra.proofs.Fronts.{front-none, front-more}
-use Rattle.message_bytes.specs.Bytes.{numberAt, elementsOf, common}
-use Rattle.message_bytes.proofs.Words.{number-of-four, Four, four}
+use Rattle.message_bytes.specs.Bytes.{numberAt, elementsOf}
+use Rattle.message_bytes.specs.Contracts.{common}
 use Rattle.message_bytes.proofs.read_elements.Statement.{statement}
 use Rattle.message_bytes.proofs.read_elements.Tie as tie
 
--- the element at place i
-place : List ℕ → ℕ → ℕ
-place bytes i = numberAt bytes (i * 4) 4
+-- element i
+abbrev element : List ℕ → ℕ → ℕ
+element bytes i = numberAt bytes (i * 4) 4
 
 abbrev Inv-loop : tie.InvT-loop
 Inv-loop bytes out₀ n i₀ out i =
@@ -24,7 +24,7 @@ Inv-loop bytes out₀ n i₀ out i =
       enough : n * 4 ≤ length bytes;
       room : n ≤ length out₀;
       same : length out ≡ length out₀;
-      is : out ≡ tab (place bytes) i ++ drop i out₀;
+      is : out ≡ tab (element bytes) i ++ drop i out₀;
     }
 
 abbrev μ-loop : tie.MeasureT-loop
@@ -43,42 +43,17 @@ loop-holds c =
       enough = omega (arith, few, c .least .ensures);
       room = omega (arith, fits, c .least .ensures);
       same = refl;
-      is = front-none (place (a .bytes .now)) (a .out .now);
+      is = front-none (element (a .bytes .now)) (a .out .now);
     }
 
--- the four bytes of element i are there
-bytes : (c : tie.In-loop Inv-loop μ-loop) → Four (c .before .loop .i) (length (c .before .before .before .before .before .args .bytes .now))
-bytes c = let l = c .before in four _ _ _ (c .loop-test .taken) (l .loop .inv .enough) (l .before .before .before .before .good .0 .0)
+mul-element-at : tie.Need-mul-element-at Inv-loop μ-loop
+mul-element-at c = omega arith
 
-mul-at : tie.Need-mul-at Inv-loop μ-loop
-mul-at c = bytes c .at-fits
-
-shared-slice-read-word : tie.Need-shared-slice-read-word Inv-loop μ-loop
-shared-slice-read-word c = bytes (c .before) .first
-
-add-word : tie.Need-add-word Inv-loop μ-loop
-add-word c = bytes (c .before) .one-fits
-
-shared-slice-read-word-2 : tie.Need-shared-slice-read-word-2 Inv-loop μ-loop
-shared-slice-read-word-2 c = bytes (c .before .before) .second
-
-add-word-2 : tie.Need-add-word-2 Inv-loop μ-loop
-add-word-2 c = omega (arith, bytes (c .before .before))
-
-shared-slice-read-word-3 : tie.Need-shared-slice-read-word-3 Inv-loop μ-loop
-shared-slice-read-word-3 c = omega (arith, bytes (c .before .before .before))
-
-add-word-3 : tie.Need-add-word-3 Inv-loop μ-loop
-add-word-3 c = omega (arith, bytes (c .before .before .before))
-
-shared-slice-read-word-4 : tie.Need-shared-slice-read-word-4 Inv-loop μ-loop
-shared-slice-read-word-4 c = omega (arith, bytes (c .before .before .before .before))
-
-word-requires : tie.Need-word-requires Inv-loop μ-loop
-word-requires c κs = search needs
+element-at-requires : tie.Need-element-at-requires Inv-loop μ-loop
+element-at-requires c κs = omega arith
 
 mul-out : tie.Need-mul-out Inv-loop μ-loop
-mul-out c = bytes (c .before .before .before .before .before) .at-fits
+mul-out c = omega arith
 
 slice-write-out : tie.Need-slice-write-out Inv-loop μ-loop
 slice-write-out c = omega arith
@@ -90,31 +65,29 @@ loop-less : tie.Need-loop-less Inv-loop μ-loop
 loop-less c = omega arith
 
 loop-again : tie.Need-loop-again Inv-loop μ-loop
-unfolding place
 loop-again c =
-    let l = c .before .before .before .before .before .before in
+    let l = c .before .before in
     let a = l .before .before .before .before .args in
-    let here = c .word .ensures ∙ sym (number-of-four (a .bytes .now) (l .loop .i * 4)) in
     record {
       short = omega arith;
       enough = l .loop .inv .enough;
       room = l .loop .inv .room;
       same = length-set (l .loop .out) (l .loop .i) _ ∙ l .loop .inv .same;
       is =
-          ap (set (l .loop .out) (l .loop .i)) here
-          ∙ front-more (place (a .bytes .now)) (a .out .now) (l .loop .out) (l .loop .i) (omega arith) (l .loop .inv .is);
+          ap (set (l .loop .out) (l .loop .i)) (c .element-at .ensures)
+          ∙ front-more (element (a .bytes .now)) (a .out .now) (l .loop .out) (l .loop .i) (omega arith) (l .loop .inv .is);
     }
 
 same-length : tie.Need-same-length Inv-loop μ-loop
 same-length c = c .before .loop .inv .same
 
 returns : tie.Need-returns Inv-loop μ-loop
-unfolding place elementsOf common
+unfolding elementsOf common
 returns c =
     let l = c .before in
     let a = l .before .before .before .before .args in
     let all : l .loop .i ≡ common (a .bytes .now) (a .out .now) = omega (arith, l .before .least .ensures) in
-    l .loop .inv .is ∙ ap (λ (k : ℕ). tab (place (a .bytes .now)) k ++ drop k (a .out .now)) all
+    l .loop .inv .is ∙ ap (λ (k : ℕ). tab (element (a .bytes .now)) k ++ drop k (a .out .now)) all
 
 pub read-elements-spec : {M : Type 1} → statement M
 read-elements-spec =
@@ -124,15 +97,8 @@ read-elements-spec =
     μ-loop
     least-requires
     loop-holds
-    mul-at
-    shared-slice-read-word
-    add-word
-    shared-slice-read-word-2
-    add-word-2
-    shared-slice-read-word-3
-    add-word-3
-    shared-slice-read-word-4
-    word-requires
+    mul-element-at
+    element-at-requires
     mul-out
     slice-write-out
     add-i

@@ -1,5 +1,5 @@
 -- `message_bytes::write_elements` meets its contract.
-use mathlib.Core.Path.{_≡_, refl, sym, ap, _∙_, subst}
+use mathlib.Core.Path.{_≡_, refl, ap, _∙_}
 use mathlib.Core.List.{_++_}
 use Prim.Native.Nat.{ℕ, _+_, _-_, _*_, _/_, _≤_}
 use native.Mathlib.Nat.{min-le-left, min-le-right}
@@ -7,8 +7,9 @@ use native.Mathlib.Omega.{arith}
 use borrow.Author.Needs.{needs}
 use lib.ListN.{length, take, drop, set}
 use lib.Seq.{lt-length-set}
-use Rattle.message_bytes.specs.Bytes.{bytesOf, common}
-use Rattle.message_bytes.proofs.Words.{Four, four, write-four, length-four}
+use Rattle.message_bytes.specs.Bytes.{bytesOf}
+use Rattle.message_bytes.specs.Contracts.{common}
+use Rattle.message_bytes.proofs.Words.{write-four, length-four}
 use Rattle.message_bytes.proofs.write_elements.Statement.{statement}
 use Rattle.message_bytes.proofs.write_elements.Tie as tie
 
@@ -42,65 +43,59 @@ loop-holds c =
       is = refl;
     }
 
--- the four bytes of element i have room
-bytes : (c : tie.In-loop Inv-loop μ-loop) → Four (c .before .loop .i) (length (c .before .loop .out))
-bytes c =
-    let l = c .before in
-    subst (Four (l .loop .i)) (sym (l .loop .inv .same)) (four _ _ _ (c .loop-test .taken) (l .loop .inv .room) (l .before .before .before .before .good .1 .0 .0))
-
 mul-x : tie.Need-mul-x Inv-loop μ-loop
-mul-x c = bytes c .at-fits
+mul-x c = omega arith
 
 shared-slice-read-x : tie.Need-shared-slice-read-x Inv-loop μ-loop
 shared-slice-read-x c = omega arith
 
-mul-at : tie.Need-mul-at Inv-loop μ-loop
-mul-at c = bytes (c .before) .at-fits
+mul-start : tie.Need-mul-start Inv-loop μ-loop
+mul-start c = omega arith
 
 low-byte-requires : tie.Need-low-byte-requires Inv-loop μ-loop
 low-byte-requires c κs = search needs
 
 slice-write-out : tie.Need-slice-write-out Inv-loop μ-loop
-slice-write-out c = bytes (c .before .before) .first
+slice-write-out c = omega arith
 
 low-byte-requires-2 : tie.Need-low-byte-requires-2 Inv-loop μ-loop
 low-byte-requires-2 c κs = search needs
 
 add-out : tie.Need-add-out Inv-loop μ-loop
-add-out c = bytes (c .before .before .before) .one-fits
+add-out c = omega arith
 
 slice-write-out-2 : tie.Need-slice-write-out-2 Inv-loop μ-loop
 slice-write-out-2 c =
     let l = c .before .before .before .before in
-    lt-length-set (l .loop .out) (l .loop .i * 4) (c .before .low-byte .result) (bytes (c .before .before .before) .second)
+    lt-length-set (l .loop .out) (l .loop .i * 4) (c .before .low-byte .result) (omega arith)
 
 low-byte-requires-3 : tie.Need-low-byte-requires-3 Inv-loop μ-loop
 low-byte-requires-3 c κs = search needs
 
 add-out-2 : tie.Need-add-out-2 Inv-loop μ-loop
-add-out-2 c = bytes (c .before .before .before .before) .two-fits
+add-out-2 c = omega arith
 
 slice-write-out-3 : tie.Need-slice-write-out-3 Inv-loop μ-loop
 slice-write-out-3 c =
     let l = c .before .before .before .before .before in
-    let at = l .loop .i * 4 in
-    lt-length-set (set (l .loop .out) at (c .before .before .low-byte .result)) (at + 1) (c .before .low-byte2 .result)
-    (lt-length-set (l .loop .out) at (c .before .before .low-byte .result) (bytes (c .before .before .before .before) .third))
+    let start = l .loop .i * 4 in
+    lt-length-set (set (l .loop .out) start (c .before .before .low-byte .result)) (start + 1) (c .before .low-byte2 .result)
+    (lt-length-set (l .loop .out) start (c .before .before .low-byte .result) (omega arith))
 
 low-byte-requires-4 : tie.Need-low-byte-requires-4 Inv-loop μ-loop
 low-byte-requires-4 c κs = search needs
 
 add-out-3 : tie.Need-add-out-3 Inv-loop μ-loop
-add-out-3 c = bytes (c .before .before .before .before .before) .three-fits
+add-out-3 c = omega arith
 
 slice-write-out-4 : tie.Need-slice-write-out-4 Inv-loop μ-loop
 slice-write-out-4 c =
     let l = c .before .before .before .before .before .before in
-    let at = l .loop .i * 4 in
-    let first = set (l .loop .out) at (c .before .before .before .low-byte .result) in
-    lt-length-set (set first (at + 1) (c .before .before .low-byte2 .result)) (at + 2) (c .before .low-byte3 .result)
-    (lt-length-set first (at + 1) (c .before .before .low-byte2 .result)
-    (lt-length-set (l .loop .out) at (c .before .before .before .low-byte .result) (bytes (c .before .before .before .before .before) .fourth)))
+    let start = l .loop .i * 4 in
+    let first = set (l .loop .out) start (c .before .before .before .low-byte .result) in
+    lt-length-set (set first (start + 1) (c .before .before .low-byte2 .result)) (start + 2) (c .before .low-byte3 .result)
+    (lt-length-set first (start + 1) (c .before .before .low-byte2 .result)
+    (lt-length-set (l .loop .out) start (c .before .before .before .low-byte .result) (omega arith)))
 
 add-i : tie.Need-add-i Inv-loop μ-loop
 add-i c = omega arith
@@ -145,7 +140,7 @@ write-elements-spec =
     loop-holds
     mul-x
     shared-slice-read-x
-    mul-at
+    mul-start
     low-byte-requires
     slice-write-out
     low-byte-requires-2

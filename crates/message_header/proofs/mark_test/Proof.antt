@@ -1,12 +1,11 @@
 -- `message_header::mark_test` meets its contract.
 use mathlib.Core.Path.{_≡_, ap}
-use mathlib.Core.Bool.{not}
 use Prim.Native.Nat.{ℕ}
 use native.Mathlib.Omega.{arith}
-use lib.Dec.{eqb}
+use Rattle.refusal.specs.Chain.{differs}
 use Rattle.message_bytes.specs.Bytes.{numberAt}
 use Rattle.message_bytes.proofs.Words.{number-of-two}
-use Rattle.message_header.specs.Header.{mark, markTest}
+use Rattle.message_header.specs.Header.{mark}
 use borrow.Author.Needs.{needs}
 use Rattle.message_header.proofs.mark_test.Statement.{statement}
 use Rattle.message_header.proofs.mark_test.Tie as tie
@@ -24,11 +23,11 @@ word-requires : tie.Need-word-requires
 word-requires c κs = search needs
 
 returns : tie.Need-returns
-unfolding markTest mark numberAt
+unfolding mark numberAt
 returns c =
     let bytes = c .before .before .before .before .before .args .message .now in
     let is : c .word .result ≡ numberAt bytes 0 3 = omega (arith, c .word .ensures, number-of-two bytes 0) in
-    ap (λ (n : ℕ). not (eqb n 0x4D444F)) is
+    ap (λ (n : ℕ). differs n mark) is
 
 pub mark-test-spec : {M : Type 1} → statement M
 mark-test-spec =

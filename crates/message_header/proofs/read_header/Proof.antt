@@ -1,70 +1,74 @@
 -- `message_header::read_header` meets its contract.
 use mathlib.Core.Path.{_≡_, sym, ap, _∙_}
-use mathlib.Core.Bool.{false}
-use native.Mathlib.Nat.{suc-ne-zero}
 use borrow.Author.Needs.{needs}
-use Rattle.refusal.specs.Chain.{first}
+use borrow.Author.Tests.{lt-ltb, le-ltb}
+use Rattle.refusal.specs.Chain.{first, outcome}
+use Rattle.refusal.proofs.Chains.{outcome-done}
 use Rattle.message_header.specs.declared.Header.{Header}
-use Rattle.message_header.specs.Header.{fieldTests, markTest, headerTests, headerRead}
-use Rattle.message_header.proofs.Tests.{told-short, told-mark, told-version, told-fields}
-use Rattle.message_header.proofs.Outcomes.{done-by, refused-by}
+use Rattle.message_header.specs.Header.{fieldTests, headerTests}
+use Rattle.message_header.specs.Contracts.{opened}
+use Rattle.message_header.proofs.Tests.{past-version}
+use Rattle.message_header.proofs.Outcomes.{refused-by, fit-told, check-told}
 use Rattle.message_header.proofs.read_header.Statement.{statement}
 use Rattle.message_header.proofs.read_header.Tie as tie
 
 returns : tie.Need-returns
-unfolding headerRead
-returns c =
-    let message = c .before .before .args .message .now in
-    refused-by _ _ 17 (suc-ne-zero 16) (told-short message (c .if1 .taken))
+unfolding opened headerTests first outcome
+returns c = rw (lt-ltb _ _ (c .if1 .taken))
 
 mark-test-requires : tie.Need-mark-test-requires
 mark-test-requires c κs = search needs
 
 returns-2 : tie.Need-returns-2
-unfolding headerRead
-returns-2 c =
-    let e = c .before .before in
-    let message = e .before .before .args .message .now in
-    refused-by _ _ 18 (suc-ne-zero 17) (told-mark message (e .if1 .left) (sym (c .before .mark-test .ensures) ∙ c .if2 .taken))
-
-mark-passed : (c : tie.Else2) → markTest (c .before .before .before .before .args .message .now) ≡ false
-mark-passed c = sym (c .before .mark-test .ensures) ∙ c .if2 .left
+unfolding opened headerTests first outcome
+returns-2 c = let m = c .before in rw (le-ltb _ _ (m .before .if1 .left), ← m .mark-test .ensures, c .if2 .taken)
 
 version-test-requires : tie.Need-version-test-requires
 version-test-requires c κs = search needs
 
 returns-3 : tie.Need-returns-3
-unfolding headerRead
+unfolding opened headerTests first outcome
 returns-3 c =
-    let m = c .before .before in
-    let e = m .before .before in
-    let message = e .before .before .args .message .now in
-    refused-by _ _ 19 (suc-ne-zero 18)
-    (told-version message (e .if1 .left) (mark-passed m) (sym (c .before .version-test .ensures) ∙ c .if3 .taken))
+    let v = c .before in
+    let m = v .before .before in
+    rw (le-ltb _ _ (m .before .if1 .left), ← m .mark-test .ensures, v .before .if2 .left, ← v .version-test .ensures, c .if3 .taken)
 
 header-fields-requires : tie.Need-header-fields-requires
 header-fields-requires c κs = search needs
 
-field-refusal-requires : tie.Need-field-refusal-requires
-field-refusal-requires c κs = search needs
+check-fields-requires : tie.Need-check-fields-requires
+check-fields-requires c κs = search needs
 
--- what the tests of the header tell: what those of its fields do
-told : (c : tie.After-field-refusal) → first (headerTests (c .before .before .before .before .before .before .before .before .args .message .now)) ≡ c .field-refusal .result
-told c =
+enum-known-checked : tie.Need-enum-known-checked
+enum-known-checked c = search needs
+
+enum-known-checked-2 : tie.Need-enum-known-checked-2
+enum-known-checked-2 c = search needs
+
+-- the fields, as they were read, decide
+fields-decide : (c : tie.After-header-fields)
+    → first (headerTests (c .before .before .before .before .before .before .before .args .message .now)) ≡ first (fieldTests (c .header-fields .result))
+fields-decide c =
     let v = c .before .before in
     let m = v .before .before in
-    let e = m .before .before in
-    let message = e .before .before .args .message .now in
-    told-fields message (e .if1 .left) (mark-passed m) (sym (v .before .version-test .ensures) ∙ v .if3 .left)
-    ∙ sym (c .field-refusal .ensures ∙ ap (λ (h : Header). first (fieldTests h)) (c .before .header-fields .ensures))
+    past-version _ (m .before .if1 .left) (sym (m .mark-test .ensures) ∙ v .before .if2 .left) (sym (v .version-test .ensures) ∙ c .before .if3 .left)
+    ∙ ap (λ (h : Header). first (fieldTests h)) (sym (c .header-fields .ensures))
 
 returns-4 : tie.Need-returns-4
-unfolding headerRead
-returns-4 c = refused-by _ _ (c .before .field-refusal .result) (c .if4 .taken) (told (c .before))
+unfolding opened
+returns-4 c =
+    let k = c .before .before .before in
+    let f = k .before in
+    let told = fit-told (f .header-fields .result) (sym (k .check-fields .ensures) ∙ c .before .checked .given .1) in
+    rw (← f .header-fields .ensures, told .1) (sym (outcome-done _ _ _ (fields-decide f ∙ told .0)))
 
 returns-5 : tie.Need-returns-5
-unfolding headerRead
-returns-5 c = done-by _ _ (c .before .before .header-fields .ensures) (told (c .before) ∙ c .if4 .left)
+unfolding opened
+returns-5 c =
+    let k = c .before .before .before in
+    let f = k .before in
+    let told = check-told (f .header-fields .result) (sym (k .check-fields .ensures) ∙ c .before .checked2 .given .1) in
+    refused-by _ _ _ _ (told .1) (fields-decide f ∙ told .0)
 
 pub read-header-spec : {M : Type 1} → statement M
 read-header-spec =
@@ -76,6 +80,8 @@ read-header-spec =
     version-test-requires
     returns-3
     header-fields-requires
-    field-refusal-requires
+    check-fields-requires
+    enum-known-checked
+    enum-known-checked-2
     returns-4
     returns-5)

@@ -6,7 +6,7 @@ use borrow.Author.Tests.{eq-eqb, ne-eqb}
 use Rattle.message_bytes.proofs.Words.{number-of-two}
 use borrow.Author.Needs.{needs}
 use Rattle.message_bytes.specs.Bytes.{numberAt}
-use Rattle.message_header.specs.Header.{version, versionTest}
+use Rattle.message_header.specs.Header.{version}
 use Rattle.message_header.proofs.version_test.Statement.{statement}
 use Rattle.message_header.proofs.version_test.Tie as tie
 
@@ -20,19 +20,19 @@ pair-requires : tie.Need-pair-requires
 pair-requires c κs = search needs
 
 returns : tie.Need-returns
-unfolding versionTest version
+unfolding version
 returns c =
     let bytes = c .before .before .before .before .before .args .message .now in
     sym (ap not (eq-eqb (numberAt bytes 3 2) 1 (omega (arith, number-of-two bytes 3, c .before .pair .ensures, c .match .keys1))))
 
 returns-2 : tie.Need-returns-2
-unfolding versionTest version
+unfolding version
 returns-2 c =
     let bytes = c .before .before .before .before .before .args .message .now in
     sym (ap not (ne-eqb (numberAt bytes 3 2) 1 (λ e. omega (arith, number-of-two bytes 3, c .before .pair .ensures, c .match .keys2))))
 
 returns-3 : tie.Need-returns-3
-unfolding versionTest version
+unfolding version
 returns-3 c =
     let bytes = c .before .before .before .before .before .args .message .now in
     let other = c .match .rest .0 .1 in

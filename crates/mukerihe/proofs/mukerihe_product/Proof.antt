@@ -1,6 +1,4 @@
 -- `mukerihe::mukerihe_product` meets its contract.
-use mathlib.Core.Path.{sym, ap, _∙_}
-use mathlib.Core.Bool.{Bool, _||_}
 use Prim.Native.Nat.{_/_}
 use lib.Dec.{ltb}
 use lib.ListN.{length}
@@ -10,17 +8,10 @@ use Rattle.algebra.proofs.Tests.{or-all}
 use Rattle.mukerihe.proofs.mukerihe_product.Statement.{statement}
 use Rattle.mukerihe.proofs.mukerihe_product.Tie as tie
 
-either-requires : tie.Need-either-requires
-either-requires c κs = search needs
-
-either-requires-2 : tie.Need-either-requires-2
-either-requires-2 c κs = search needs
-
 small-product-requires : tie.Need-small-product-requires
 small-product-requires c κs =
-    let a = c .before .before .before .before .before .before .before .args in
-    let few = or-all (ltb 256 (length (a .a .now) / 4)) (ltb 256 (length (a .b .now) / 4)) (ltb 256 (length (a .out .now) / 4))
-    (ap (λ (t : Bool). t || ltb 256 (length (a .out .now) / 4)) (sym (c .before .before .before .either .ensures)) ∙ sym (c .before .before .either2 .ensures) ∙ not-true _ (c .before .if1 .taken)) in
+    let a = c .before .before .before .before .before .args in
+    let few = or-all (ltb 256 (length (a .a .now) / 4)) (ltb 256 (length (a .b .now) / 4)) (ltb 256 (length (a .out .now) / 4)) (not-true _ (c .before .if1 .taken)) in
     (ltb-false _ _ (few .0), ltb-false _ _ (few .1), ltb-false _ _ (few .2))
 
 same-length : tie.Need-same-length
@@ -51,8 +42,6 @@ pub mukerihe-product-spec : {M : Type 1} → statement M
 mukerihe-product-spec =
     tie.close
     (tie.spec
-    either-requires
-    either-requires-2
     small-product-requires
     same-length
     returns

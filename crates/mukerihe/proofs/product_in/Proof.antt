@@ -1,8 +1,7 @@
 -- `mukerihe::product_in` meets its contract.
-use mathlib.Core.Path.{refl, sym}
+use mathlib.Core.Path.{sym}
 use Prim.Native.Nat.{_≤_}
-use native.Mathlib.Nat.{le-trans}
-use Rattle.mukerihe.proofs.Outcomes.{refused, done}
+use Rattle.mukerihe.proofs.Outcomes.{counted-few, refused, done}
 use lib.Seq.{length-take-le}
 use lib.ListN.{length}
 use borrow.Author.Needs.{needs}
@@ -24,13 +23,19 @@ element-count-requires-2 c κs = search needs
 element-count-requires-3 : tie.Need-element-count-requires-3
 element-count-requires-3 c κs = search needs
 
+-- where the call starts
+abbrev start : tie.After-element-count3 → tie.Start
+start c = c .before .before .before .before .before .before .before .before .before .before .before .before .before .before .before .before .before
+
 -- the lists have room for the elements that are counted
 fit : (c : tie.After-element-count3)
-    → let a = c .before .before .before .before .before .before .before .before .before .before .before .before .before .before .before .before .before .args in
+    → let a = start c .args in
     (c .before .before .element-count .result ≤ length (a .left .now)) × (c .before .element-count2 .result ≤ length (a .right .now)) × (c .element-count3 .result ≤ length (a .block .now))
-fit c =
-    let p = c .before .before .before .before .before .before .before .before .before .before .before .before .before .before .before .before .before .pre in
-    (le-trans (c .before .before .element-count .ensures .0) (p .0), le-trans (c .before .element-count2 .ensures .0) (p .1), le-trans (c .element-count3 .ensures .0) (p .2))
+fit c = (
+  counted-few _ _ _ (c .before .before .element-count .ensures) (start c .pre .0),
+  counted-few _ _ _ (c .before .element-count2 .ensures) (start c .pre .1),
+  counted-few _ _ _ (c .element-count3 .ensures) (start c .pre .2),
+)
 
 slice-reshare-prefix-product : tie.Need-slice-reshare-prefix-product
 slice-reshare-prefix-product c = rw (c .before .before .before .before .before .before .before .before .left .given) (fit c .0)
@@ -78,11 +83,11 @@ returns : tie.Need-returns
 returns c =
     let call = c .before .before .before .before .before .before .before .before in
     let n = call .before .before .before .before in
-    let a = n .before .before .before .before .before .before .before .before .before .before .before .before .before .before .before .before .before .args in
+    let a = start n .args in
     let f = fit n in
-    done (a .rows) (a .inner) (a .columns) (a .a .now) (a .b .now) (length (a .out .now)) (n .before .before .element-count .result) (n .before .element-count2 .result)
-    (n .element-count3 .result) (n .before .before .element-count .ensures) (n .before .element-count2 .ensures) (n .element-count3 .ensures) (a .modulus)
-    (a .left .now) (a .right .now) (a .block .now) (f .0) (f .1) (f .2) _ _ (n .before .before .before .before .before .before .before .before .before .read-elements .ensures) (n .before .before .before .before .before .read-elements2 .ensures) (a .out .now) refl
+    done (a .n .rows) (a .n .inner) (a .n .columns) (a .a .now) (a .b .now) (a .out .now) (n .before .before .element-count .result) (n .before .element-count2 .result)
+    (n .element-count3 .result) (n .before .before .element-count .ensures) (n .before .element-count2 .ensures) (n .element-count3 .ensures) (a .n .modulus)
+    (a .left .now) (a .right .now) (a .block .now) (f .0) (f .1) (f .2) _ _ (n .before .before .before .before .before .before .before .before .before .read-elements .ensures) (n .before .before .before .before .before .read-elements2 .ensures)
     (call .product .result) (call .product .ensures .0) (c .before .before .before .before .before .if1 .taken) (call .product .last .1 .1 .1 .1 .1 .1 .0) _
     (c .before .before .before .before .before .before .before .block .given .0) (call .product .ensures .1) (c .before .before .write-elements .ensures)
 
@@ -99,11 +104,11 @@ returns-2 : tie.Need-returns-2
 returns-2 c =
     let call = c .before .before .before in
     let n = call .before .before .before .before in
-    let a = n .before .before .before .before .before .before .before .before .before .before .before .before .before .before .before .before .before .args in
+    let a = start n .args in
     let f = fit n in
-    refused (a .rows) (a .inner) (a .columns) (a .a .now) (a .b .now) (length (a .out .now)) (n .before .before .element-count .result) (n .before .element-count2 .result)
-    (n .element-count3 .result) (n .before .before .element-count .ensures) (n .before .element-count2 .ensures) (n .element-count3 .ensures) (a .modulus)
-    (a .left .now) (a .right .now) (a .block .now) (f .0) (f .1) (f .2) _ _ (n .before .before .before .before .before .before .before .before .before .read-elements .ensures) (n .before .before .before .before .before .read-elements2 .ensures) (a .out .now) refl
+    refused (a .n .rows) (a .n .inner) (a .n .columns) (a .a .now) (a .b .now) (a .out .now) (n .before .before .element-count .result) (n .before .element-count2 .result)
+    (n .element-count3 .result) (n .before .before .element-count .ensures) (n .before .element-count2 .ensures) (n .element-count3 .ensures) (a .n .modulus)
+    (a .left .now) (a .right .now) (a .block .now) (f .0) (f .1) (f .2) _ _ (n .before .before .before .before .before .before .before .before .before .read-elements .ensures) (n .before .before .before .before .before .read-elements2 .ensures)
     (call .product .result) (call .product .ensures .0) (c .if1 .left)
 
 pub product-in-spec : {M : Type 1} → statement M

@@ -9,12 +9,8 @@ all-below-requires c κs = search needs
 all-below-requires-2 : tie.Need-all-below-requires-2
 all-below-requires-2 c κs = search needs
 
-either-requires : tie.Need-either-requires
-either-requires c κs = search needs
-
 returns : tie.Need-returns
-returns c = rw (c .either .ensures, c .before .all-below2 .ensures, c .before .before .all-below .ensures)
+returns c = rw (c .all-below2 .ensures, c .before .all-below .ensures)
 
 pub element-test-spec : {M : Type 1} → statement M
-element-test-spec =
-    tie.close (tie.spec all-below-requires all-below-requires-2 either-requires returns)
+element-test-spec = tie.close (tie.spec all-below-requires all-below-requires-2 returns)

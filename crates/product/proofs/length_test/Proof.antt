@@ -1,5 +1,4 @@
 -- `product::length_test` meets its contract.
-use Rattle.product.specs.Product.{lengthTest}
 use borrow.Author.Needs.{needs}
 use Rattle.product.proofs.length_test.Statement.{statement}
 use Rattle.product.proofs.length_test.Tie as tie
@@ -10,26 +9,11 @@ wide-product-requires c κs = search needs
 wide-product-requires-2 : tie.Need-wide-product-requires-2
 wide-product-requires-2 c κs = search needs
 
-either-requires : tie.Need-either-requires
-either-requires c κs = search needs
-
 wide-product-requires-3 : tie.Need-wide-product-requires-3
 wide-product-requires-3 c κs = search needs
 
-either-requires-2 : tie.Need-either-requires-2
-either-requires-2 c κs = search needs
-
 returns : tie.Need-returns
-unfolding lengthTest
-returns c = rw (c .either2 .ensures, c .before .wide-product3 .ensures, c .before .before .either .ensures, c .before .before .before .wide-product2 .ensures, c .before .before .before .before .wide-product .ensures)
+returns c = rw (c .wide-product3 .ensures, c .before .wide-product2 .ensures, c .before .before .wide-product .ensures)
 
 pub length-test-spec : {M : Type 1} → statement M
-length-test-spec =
-    tie.close
-    (tie.spec
-    wide-product-requires
-    wide-product-requires-2
-    either-requires
-    wide-product-requires-3
-    either-requires-2
-    returns)
+length-test-spec = tie.close (tie.spec wide-product-requires wide-product-requires-2 wide-product-requires-3 returns)

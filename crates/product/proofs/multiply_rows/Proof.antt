@@ -13,7 +13,7 @@ use Rattle.algebra.proofs.Grids.{rows-none, rows-some, rows-all}
 use Rattle.field.specs.declared.Modulus.{Modulus}
 use Rattle.field.specs.Modulus.{prime}
 use Rattle.product.specs.Product.{productEntry, productOf}
-use Rattle.product.specs.Rows.{AtOnce}
+use Rattle.product.specs.Contracts.{AtOnce}
 use Rattle.product.proofs.Rows.{part-rows}
 use Rattle.product.proofs.multiply_rows.Statement.{statement}
 use Rattle.product.proofs.multiply_rows.Tie as tie
@@ -23,7 +23,7 @@ element : Modulus → ℕ → ℕ → List ℕ → List ℕ → ℕ → ℕ → 
 element modulus inner columns a b i j = productEntry inner columns a b i j % prime modulus
 
 abbrev Inv-loop : tie.InvT-loop
-Inv-loop modulus rows inner columns a b sums₀ out₀ step i₀ sums out i =
+Inv-loop modulus a b sums₀ out₀ rows inner columns step i₀ sums out i =
     record {
       short : i ≤ rows;
       wide : length sums ≡ columns;
@@ -32,7 +32,7 @@ Inv-loop modulus rows inner columns a b sums₀ out₀ step i₀ sums out i =
     }
 
 abbrev μ-loop : tie.MeasureT-loop
-μ-loop modulus rows inner columns a b sums₀ out₀ step i₀ sums out i = rows - i
+μ-loop modulus a b sums₀ out₀ rows inner columns step i₀ sums out i = rows - i
 
 at-once-requires : tie.Need-at-once-requires Inv-loop μ-loop
 at-once-requires c κs = search needs
@@ -40,7 +40,7 @@ at-once-requires c κs = search needs
 loop-holds : tie.Need-loop-holds Inv-loop μ-loop
 loop-holds c =
     let e = c .before .before .before .before .before in
-    record { short = omega arith; wide = e .pre .1; same = refl; is = rows-none _ (e .args .out .now) (e .args .columns) }
+    record { short = omega arith; wide = e .pre .1; same = refl; is = rows-none _ (e .args .out .now) (e .args .s .columns) }
 
 sub-least : tie.Need-sub-least Inv-loop μ-loop
 sub-least c = omega arith
@@ -53,15 +53,15 @@ turn : (c : tie.After-least Inv-loop μ-loop)
     → let a = c .before .before .before .before .before .before .before .before .args in
     let i = c .before .before .loop .i in
     let n = c .least .result in
-    AtOnce (prime (a .modulus)) (a .inner) n × (i + n ≤ a .rows) × (i * a .inner + n * a .inner ≤ a .rows * a .inner) × (i * a .columns + n * a .columns ≤ a .rows * a .columns)
+    AtOnce (prime (a .modulus)) (a .s .inner) n × (i + n ≤ a .s .rows) × (i * a .s .inner + n * a .s .inner ≤ a .s .rows * a .s .inner) × (i * a .s .columns + n * a .s .columns ≤ a .s .rows * a .s .columns)
 turn c =
     let a = c .before .before .before .before .before .before .before .before .args in
     let once = c .before .before .before .at-once .ensures in
-    let n : c .before .before .loop .i + c .least .result ≤ a .rows = omega (arith, c .least .ensures) in (
+    let n : c .before .before .loop .i + c .least .result ≤ a .s .rows = omega (arith, c .least .ensures) in (
       record { some = omega (arith, c .least .ensures); few = omega (arith, c .least .ensures); room = λ h. once .room (omega (arith, c .least .ensures)) },
       n,
-      omega (arith, mul-le-mul-right (a .inner) n),
-      omega (arith, mul-le-mul-right (a .columns) n),
+      omega (arith, mul-le-mul-right (a .s .inner) n),
+      omega (arith, mul-le-mul-right (a .s .columns) n),
     )
 
 mul-left : tie.Need-mul-left Inv-loop μ-loop
@@ -117,11 +117,11 @@ few-rows-requires c κs =
     let t = turn l in
     rw (add-sub-cancel-left, add-sub-cancel-left) (
       t .0,
-      below-part (prime (a .modulus)) (a .a .now) (e .pre .0 .below-a) (n * a .inner) (i * a .inner),
+      below-part (prime (a .modulus)) (a .a .now) (e .pre .0 .below-a) (n * a .s .inner) (i * a .s .inner),
       e .pre .0 .below-b,
       e .pre .0 .few,
-      length-take-le (n * a .inner) (drop (i * a .inner) (a .a .now)) (omega (arith, length-drop (i * a .inner) (a .a .now))),
-      length-take-le (n * a .columns) (drop (i * a .columns) out) (omega (arith, length-drop (i * a .columns) out))
+      length-take-le (n * a .s .inner) (drop (i * a .s .inner) (a .a .now)) (omega (arith, length-drop (i * a .s .inner) (a .a .now))),
+      length-take-le (n * a .s .columns) (drop (i * a .s .columns) out) (omega (arith, length-drop (i * a .s .columns) out))
           ∙ ap (λ (k : ℕ). n * k) (sym (l .before .before .loop .inv .wide)),
     )
 
@@ -142,13 +142,13 @@ loop-again c =
     let t = turn l in
     let made = rw add-sub-cancel-left at (rows .few-rows .ensures) in
     let is = made
-    ∙ ap (λ (k : ℕ). productOf (prime (a .modulus)) n (a .inner) k (take (n * a .inner) (drop (loop .i * a .inner) (a .a .now))) (a .b .now)) (loop .inv .wide)
-    ∙ part-rows (prime (a .modulus)) (a .inner) (a .columns) (a .a .now) (a .b .now) (loop .i) n in
+    ∙ ap (λ (k : ℕ). productOf (prime (a .modulus)) n (a .s .inner) k (take (n * a .s .inner) (drop (loop .i * a .s .inner) (a .a .now))) (a .b .now)) (loop .inv .wide)
+    ∙ part-rows (prime (a .modulus)) (a .s .inner) (a .s .columns) (a .a .now) (a .b .now) (loop .i) n in
     record {
       short = t .1;
       wide = omega arith;
       same = omega arith;
-      is = rw add-sub-cancel-left (rows-some (element (a .modulus) (a .inner) (a .columns) (a .a .now) (a .b .now)) (a .out .now) (loop .out) _ (a .columns) (loop .i) n (loop .inv .is) is);
+      is = rw add-sub-cancel-left (rows-some (element (a .modulus) (a .s .inner) (a .s .columns) (a .a .now) (a .b .now)) (a .out .now) (loop .out) _ (a .s .columns) (loop .i) n (loop .inv .is) is);
     }
 
 same-length : tie.Need-same-length Inv-loop μ-loop
@@ -163,9 +163,9 @@ returns c =
     let l = c .before in
     let e = l .before .before .before .before .before .before in
     let a = e .args in
-    let all : l .loop .i ≡ a .rows = omega arith in
-    rows-all (element (a .modulus) (a .inner) (a .columns) (a .a .now) (a .b .now)) (a .out .now) (l .loop .out) (a .rows) (a .columns) (e .pre .0 .length-out)
-    (l .loop .inv .is ∙ ap (λ (k : ℕ). grid (element (a .modulus) (a .inner) (a .columns) (a .a .now) (a .b .now)) k (a .columns) ++ drop (k * a .columns) (a .out .now)) all)
+    let all : l .loop .i ≡ a .s .rows = omega arith in
+    rows-all (element (a .modulus) (a .s .inner) (a .s .columns) (a .a .now) (a .b .now)) (a .out .now) (l .loop .out) (a .s .rows) (a .s .columns) (e .pre .0 .length-out)
+    (l .loop .inv .is ∙ ap (λ (k : ℕ). grid (element (a .modulus) (a .s .inner) (a .s .columns) (a .a .now) (a .b .now)) k (a .s .columns) ++ drop (k * a .s .columns) (a .out .now)) all)
 
 pub multiply-rows-spec : {M : Type 1} → statement M
 multiply-rows-spec =

@@ -6,7 +6,7 @@ use Rattle.refusal.specs.Chain.{first}
 use Rattle.field.specs.Modulus.{prime}
 use Rattle.field.proofs.Moduli.{Known, known, none-named}
 use Rattle.product.specs.Product.{productTests}
-use Rattle.product.proofs.Outcomes.{refused, done, ready}
+use Rattle.product.proofs.Outcomes.{refused, done, multiplicable}
 use borrow.Author.Needs.{needs}
 use Rattle.product.proofs.product.Statement.{statement}
 use Rattle.product.proofs.product.Tie as tie
@@ -88,7 +88,7 @@ multiply-requires c κs =
     let size = block .before .before in
     let k = size .before .before in
     let a = k .before .before .before .before .before .before .before .args in
-    ready (prime (k .before .named .given .0 .0)) (a .rows) (a .inner) (a .columns) (a .a .now) (a .b .now) (length (a .out .now)) (sym (size .before .sizes-outside .ensures) ∙ size .if1 .left)
+    multiplicable (prime (k .before .named .given .0 .0)) (a .rows) (a .inner) (a .columns) (a .a .now) (a .b .now) (length (a .out .now)) (sym (size .before .sizes-outside .ensures) ∙ size .if1 .left)
     (sym (block .before .over-block .ensures) ∙ block .if2 .left) (sym (len .before .length-test .ensures) ∙ len .if3 .left) (sym (els .before .element-test .ensures) ∙ els .if4 .left)
 
 same-length : tie.Need-same-length

@@ -11,12 +11,12 @@ use Rattle.algebra.specs.Lists.{tab}
 use Rattle.algebra.specs.Sums.{sum}
 use Rattle.algebra.proofs.Lists.{rest-is}
 use Rattle.algebra.proofs.Grids.{tab-cong}
-use Rattle.sums_rows.specs.Combination.{combination, added}
+use Rattle.sums_rows.specs.Contracts.{combination, added}
 use Rattle.sums_rows.proofs.Steps.{sumsTo, sums-none}
 use Rattle.sums_rows.proofs.Exact.{added-more}
 use Rattle.share_side.proofs.Parts.{Part, row-part}
-use Rattle.share_blocks.specs.Encoding.{blockTerms}
-use Rattle.share_blocks.proofs.Places.{Placed, placed, width-fits}
+use Rattle.share_blocks.specs.Contracts.{blockTerms}
+use Rattle.share_blocks.proofs.Offsets.{RowAt, row-at, width-fits}
 use Rattle.share_blocks.proofs.add_blocks.Statement.{statement}
 use Rattle.share_blocks.proofs.add_blocks.Tie as tie
 
@@ -29,18 +29,19 @@ terms-step sums f k =
 
 -- the part of row h of the blocks
 abbrev part : ℕ → ℕ → ℕ → ℕ → List ℕ → List ℕ → ℕ → ℕ → ℕ → ℕ
-part across rows columns width weights xs i h j = combination (take across (drop (h * across) weights)) (drop ((h * rows + i) * width) xs) columns j
+part grid-columns block-rows block-columns width weights xs i h j =
+    combination (take grid-columns (drop (h * grid-columns) weights)) (drop ((h * block-rows + i) * width) xs) block-columns j
 
 abbrev Inv-loop : tie.InvT-loop
-Inv-loop i weights xs sums₀ down across rows columns width k₀ sums k =
+Inv-loop i weights xs sums₀ grid-rows grid-columns block-rows block-columns width k₀ sums k =
     record {
-      is : sums ≡ tab (λ j. (getD sums₀ j 0 + sum k (λ h. part across rows columns width weights xs i h j)) % 2 ^ 64) (length sums₀);
-      short : k ≤ down;
+      is : sums ≡ tab (λ j. (getD sums₀ j 0 + sum k (λ h. part grid-columns block-rows block-columns width weights xs i h j)) % 2 ^ 64) (length sums₀);
+      short : k ≤ grid-rows;
       same : length sums ≡ length sums₀;
     }
 
 abbrev μ-loop : tie.MeasureT-loop
-μ-loop i weights xs sums₀ down across rows columns width k₀ sums k = down - k
+μ-loop i weights xs sums₀ grid-rows grid-columns block-rows block-columns width k₀ sums k = grid-rows - k
 
 mul-width : tie.Need-mul-width Inv-loop μ-loop
 mul-width c = let e = c .before .before .before in width-fits (e .args .s) (e .pre .0)
@@ -53,12 +54,12 @@ loop-holds c =
 
 -- the weights of row k of the blocks, and row i of it
 weights-row : (c : tie.In-loop Inv-loop μ-loop)
-    → Part (c .before .loop .k * c .before .before .before .before .before .args .s .across) (c .before .before .before .before .before .args .s .across) (length (c .before .before .before .before .before .args .weights .now))
+    → Part (c .before .loop .k * c .before .before .before .before .before .args .s .«grid_columns») (c .before .before .before .before .before .args .s .«grid_columns») (length (c .before .before .before .before .before .args .weights .now))
 weights-row c = let e = c .before .before .before .before .before in row-part (e .args .s) (e .pre .0) _ (e .pre .2) _ (c .loop-test .taken)
 
 matrix-row : (c : tie.In-loop Inv-loop μ-loop)
-    → Placed (c .before .before .before .before .before .args .s) (c .before .loop .k) (c .before .before .before .before .before .args .i) (length (c .before .before .before .before .before .args .xs .now))
-matrix-row c = let e = c .before .before .before .before .before in placed (e .args .s) (e .pre .0) _ _ _ (c .loop-test .taken) (e .pre .1) (e .pre .3)
+    → RowAt (c .before .before .before .before .before .args .s) (c .before .loop .k) (c .before .before .before .before .before .args .i) (length (c .before .before .before .before .before .args .xs .now))
+matrix-row c = let e = c .before .before .before .before .before in row-at (e .args .s) (e .pre .0) _ _ _ (c .loop-test .taken) (e .pre .1) (e .pre .3)
 
 mul-start : tie.Need-mul-start Inv-loop μ-loop
 mul-start c = weights-row c .start-fits
@@ -76,7 +77,7 @@ mul-from-2 : tie.Need-mul-from-2 Inv-loop μ-loop
 mul-from-2 c = matrix-row c .matrix .from-fits
 
 mul-add-rows : tie.Need-mul-add-rows Inv-loop μ-loop
-mul-add-rows c = weights-row (c .before) .place-fits
+mul-add-rows c = weights-row (c .before) .offset-fits
 
 sub-add-rows : tie.Need-sub-add-rows Inv-loop μ-loop
 sub-add-rows c = weights-row (c .before) .ordered
@@ -88,7 +89,7 @@ part-add-rows-end : tie.Need-part-add-rows-end Inv-loop μ-loop
 part-add-rows-end c = weights-row (c .before) .within
 
 mul-add-rows-2 : tie.Need-mul-add-rows-2 Inv-loop μ-loop
-mul-add-rows-2 c = matrix-row (c .before .before) .matrix .place-fits
+mul-add-rows-2 c = matrix-row (c .before .before) .matrix .offset-fits
 
 sub-add-rows-2 : tie.Need-sub-add-rows-2 Inv-loop μ-loop
 sub-add-rows-2 c = matrix-row (c .before .before) .matrix .within
@@ -113,15 +114,15 @@ loop-again c =
     let l = c .before .before .before .before .before .before in
     let a = l .before .before .before .before .before .args in
     let k = l .before .loop .k in
-    let from = (k * a .s .rows + a .i) * (a .s .across * a .s .columns) in
-    let f : ℕ → ℕ = λ j. getD (a .sums .now) j 0 + sum k (λ h. part (a .s .across) (a .s .rows) (a .s .columns) (a .s .across * a .s .columns) (a .weights .now) (a .xs .now) (a .i) h j) in
-    let row : take (k * a .s .across + a .s .across - k * a .s .across) (drop (k * a .s .across) (a .weights .now)) ≡ take (a .s .across) (drop (k * a .s .across) (a .weights .now)) = rw add-sub-cancel-left in
+    let from = (k * a .s .«block_rows» + a .i) * (a .s .«grid_columns» * a .s .«block_columns») in
+    let f : ℕ → ℕ = λ j. getD (a .sums .now) j 0 + sum k (λ h. part (a .s .«grid_columns») (a .s .«block_rows») (a .s .«block_columns») (a .s .«grid_columns» * a .s .«block_columns») (a .weights .now) (a .xs .now) (a .i) h j) in
+    let row : take (k * a .s .«grid_columns» + a .s .«grid_columns» - k * a .s .«grid_columns») (drop (k * a .s .«grid_columns») (a .weights .now)) ≡ take (a .s .«grid_columns») (drop (k * a .s .«grid_columns») (a .weights .now)) = rw add-sub-cancel-left in
     record {
       is =
           c .before .before .add-rows .ensures
-          ∙ ap₂ (λ (w m : List ℕ). added (l .before .loop .sums) w m (a .s .columns)) row (rest-is (a .xs .now) from)
-          ∙ added-more _ _ (a .s .columns) f (length (a .sums .now)) (l .before .loop .sums) (l .before .loop .inv .is)
-          ∙ terms-step (a .sums .now) (λ h j. part (a .s .across) (a .s .rows) (a .s .columns) (a .s .across * a .s .columns) (a .weights .now) (a .xs .now) (a .i) h j) k;
+          ∙ ap₂ (λ (w m : List ℕ). added (l .before .loop .sums) w m (a .s .«block_columns»)) row (rest-is (a .xs .now) from)
+          ∙ added-more _ _ (a .s .«block_columns») f (length (a .sums .now)) (l .before .loop .sums) (l .before .loop .inv .is)
+          ∙ terms-step (a .sums .now) (λ h j. part (a .s .«grid_columns») (a .s .«block_rows») (a .s .«block_columns») (a .s .«grid_columns» * a .s .«block_columns») (a .weights .now) (a .xs .now) (a .i) h j) k;
       short = omega arith;
       same = omega arith;
     }
@@ -134,8 +135,8 @@ unfolding blockTerms
 returns c =
     let l = c .before in
     let a = l .before .before .before .before .args in
-    let all : l .loop .k ≡ a .s .down = omega arith in
-    l .loop .inv .is ∙ ap (λ (n : ℕ). tab (λ j. (getD (a .sums .now) j 0 + sum n (λ h. part (a .s .across) (a .s .rows) (a .s .columns) (a .s .across * a .s .columns) (a .weights .now) (a .xs .now) (a .i) h j)) % 2 ^ 64) (length (a .sums .now))) all
+    let all : l .loop .k ≡ a .s .«grid_rows» = omega arith in
+    l .loop .inv .is ∙ ap (λ (n : ℕ). tab (λ j. (getD (a .sums .now) j 0 + sum n (λ h. part (a .s .«grid_columns») (a .s .«block_rows») (a .s .«block_columns») (a .s .«grid_columns» * a .s .«block_columns») (a .weights .now) (a .xs .now) (a .i) h j)) % 2 ^ 64) (length (a .sums .now))) all
 
 pub add-blocks-spec : {M : Type 1} → statement M
 add-blocks-spec =

@@ -7,18 +7,18 @@ use native.Mathlib.Omega.{arith}
 use borrow.Author.Needs.{needs}
 use lib.ListN.{length, take, drop}
 use Rattle.algebra.proofs.Lists.{rest-is}
-use Rattle.sums_rows.specs.Combination.{added}
+use Rattle.sums_rows.specs.Contracts.{added}
 use Rattle.share_side.proofs.Parts.{Part, masks-part}
-use Rattle.share_blocks.specs.Encoding.{maskTerms}
-use Rattle.share_blocks.proofs.Places.{Rest, mask-row, block-fits}
+use Rattle.share_blocks.specs.Contracts.{maskTerms}
+use Rattle.share_blocks.proofs.Offsets.{Rest, mask-row, block-fits}
 use Rattle.share_blocks.proofs.add_masks.Statement.{statement}
 use Rattle.share_blocks.proofs.add_masks.Tie as tie
 
 -- the masks' weights, and row i of the masks
-weights-part : (e : tie.Start) → Part (e .args .s .down * e .args .s .across) (e .args .s .count) (length (e .args .weights .now))
+weights-part : (e : tie.Start) → Part (e .args .s .«grid_rows» * e .args .s .«grid_columns») (e .args .s .«mask_count») (length (e .args .weights .now))
 weights-part e = masks-part (e .args .s) (e .pre .0) _ (e .pre .2)
 
-row : (e : tie.Start) → Rest (e .args .i * e .args .s .columns) (length (e .args .masks .now))
+row : (e : tie.Start) → Rest (e .args .i * e .args .s .«block_columns») (length (e .args .masks .now))
 row e = mask-row (e .args .s) (e .pre .0) _ _ (e .pre .1) (e .pre .3)
 
 mul-start : tie.Need-mul-start
@@ -34,7 +34,7 @@ mul-block : tie.Need-mul-block
 mul-block c = let e = c .before .before .before .before .before .before .before in block-fits (e .args .s) (e .pre .0)
 
 mul-add-rows : tie.Need-mul-add-rows
-mul-add-rows c = weights-part (c .before .before .before .before .before .before .before .before) .place-fits
+mul-add-rows c = weights-part (c .before .before .before .before .before .before .before .before) .offset-fits
 
 sub-add-rows : tie.Need-sub-add-rows
 sub-add-rows c = omega (arith, weights-part (c .before .before .before .before .before .before .before .before))
@@ -46,7 +46,7 @@ part-add-rows-end : tie.Need-part-add-rows-end
 part-add-rows-end c = omega (arith, weights-part (c .before .before .before .before .before .before .before .before))
 
 mul-add-rows-2 : tie.Need-mul-add-rows-2
-mul-add-rows-2 c = row (c .before .before .before .before .before .before .before .before .before) .place-fits
+mul-add-rows-2 c = row (c .before .before .before .before .before .before .before .before .before) .offset-fits
 
 sub-add-rows-2 : tie.Need-sub-add-rows-2
 sub-add-rows-2 c = row (c .before .before .before .before .before .before .before .before .before) .within
@@ -67,10 +67,10 @@ returns : tie.Need-returns
 unfolding maskTerms added
 returns c =
     let a = c .before .before .before .before .before .before .before .before .before .before .before .before .before .args in
-    let n = a .s .down * a .s .across in
-    let from = a .i * a .s .columns in
-    let ws : take (n + a .s .count - n) (drop n (a .weights .now)) ≡ take (a .s .count) (drop n (a .weights .now)) = rw add-sub-cancel-left in
-    c .before .before .add-rows .ensures ∙ ap₂ (λ (w m : List ℕ). added (a .sums .now) w m (a .s .rows * a .s .columns)) ws (rest-is (a .masks .now) from)
+    let n = a .s .«grid_rows» * a .s .«grid_columns» in
+    let from = a .i * a .s .«block_columns» in
+    let ws : take (n + a .s .«mask_count» - n) (drop n (a .weights .now)) ≡ take (a .s .«mask_count») (drop n (a .weights .now)) = rw add-sub-cancel-left in
+    c .before .before .add-rows .ensures ∙ ap₂ (λ (w m : List ℕ). added (a .sums .now) w m (a .s .«block_rows» * a .s .«block_columns»)) ws (rest-is (a .masks .now) from)
 
 pub add-masks-spec : {M : Type 1} → statement M
 add-masks-spec =

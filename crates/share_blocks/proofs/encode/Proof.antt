@@ -1,16 +1,13 @@
 -- `share_blocks::encode` meets its contract.
 use mathlib.Core.Path.{_≡_, sym, _∙_}
-use mathlib.Core.List.{List}
-use Prim.Native.Nat.{ℕ}
-use native.Mathlib.Nat.{mul-le-mul}
-use native.Mathlib.Omega.{arith}
 use lib.ListN.{length}
 use lib.Seq.{length-take-le}
 use borrow.Author.Needs.{needs}
-use Rattle.share_side.specs.declared.Side.{Side}
-use Rattle.share_side.specs.Weights.{weightCount}
-use Rattle.share_blocks.specs.Encoding.{Ready, encoded}
-use Rattle.share_blocks.proofs.Fitting.{Fit, fit, encoded-fit}
+use Rattle.refusal.specs.Chain.{first}
+use Rattle.refusal.proofs.Chains.{unless-done, unless-refused}
+use Rattle.field.specs.Modulus.{prime}
+use Rattle.share_blocks.specs.Contracts.{encodeTests, encoded}
+use Rattle.share_blocks.proofs.Fitting.{Fit, fit, encodable}
 use Rattle.share_blocks.proofs.encode.Statement.{statement}
 use Rattle.share_blocks.proofs.encode.Tie as tie
 
@@ -18,23 +15,19 @@ use Rattle.share_blocks.proofs.encode.Tie as tie
 abbrev start : tie.Else1 → tie.Start
 start c = c .before .before .before .before .before
 
--- past the test, all fits
-fits : (c : tie.Else1) → Fit (start c .args .s) (length (start c .args .xs .now)) (length (start c .args .masks .now)) (length (start c .args .out .now))
-fits c = fit _ _ _ _ (sym (c .before .misfit .ensures) ∙ c .if1 .left)
+-- past the tests none holds, and all fits
+clear : (c : tie.Else1) → first (encodeTests (prime (start c .args .modulus)) (start c .args .s) (start c .args .xs .now) (start c .args .masks .now) (length (start c .args .out .now))) ≡ 0
+clear c = sym (c .before .encode-refusal .ensures) ∙ c .if1 .left
 
--- 80 weights are enough for every block and mask
-ready : (s : Side) (w xs ms : List ℕ) (room : ℕ) → length w ≡ 80 → Fit s (length xs) (length ms) room → Ready s w xs ms
-unfolding weightCount
-ready s w xs ms room all f =
-    let small = f .small in
-    record { small = small; weights = omega (arith, mul-le-mul (small .down) (small .across)); matrix = f .exact .matrix; masks = f .exact .masks }
+fits : (c : tie.Else1) → Fit (prime (start c .args .modulus)) (start c .args .s) (start c .args .xs .now) (start c .args .masks .now) (length (start c .args .out .now))
+fits c = fit _ _ _ _ _ (clear c)
 
-misfit-requires : tie.Need-misfit-requires
-misfit-requires c κs = search needs
+encode-refusal-requires : tie.Need-encode-refusal-requires
+encode-refusal-requires c κs = search needs
 
 returns : tie.Need-returns
 unfolding encoded
-returns c = rw (← c .before .misfit .ensures, c .if1 .taken)
+returns c = let number = c .before .encode-refusal .ensures in (number, sym (unless-refused _ _ _ (λ z. c .if1 .taken (number ∙ z))))
 
 array-borrow-prefix-few : tie.Need-array-borrow-prefix-few
 array-borrow-prefix-few c = c .before .if2 .taken
@@ -46,10 +39,10 @@ encode-rows-requires : tie.Need-encode-rows-requires
 encode-rows-requires c κs =
     let lent = c .before .before in
     let f = fits (lent .before .before) in
-    (ready _ _ _ _ _ (lent .encode-rows-arg .given .0) f, f .exact .out, length-take-le _ _ (array-borrow-prefix-few lent))
+    (encodable _ _ _ _ _ _ (lent .encode-rows-arg .given .0) f, f .passed .block, length-take-le _ _ (array-borrow-prefix-few lent))
 
 array-borrow-prefix-many : tie.Need-array-borrow-prefix-many
-array-borrow-prefix-many c = fits (c .before .before) .small .columns
+array-borrow-prefix-many c = fits (c .before .before) .small .block-columns
 
 slice-aggregate-encode-rows-2 : tie.Need-slice-aggregate-encode-rows-2
 slice-aggregate-encode-rows-2 c = sym (length-take-le _ _ (array-borrow-prefix-many (c .before)))
@@ -58,31 +51,33 @@ encode-rows-requires-2 : tie.Need-encode-rows-requires-2
 encode-rows-requires-2 c κs =
     let lent = c .before .before in
     let f = fits (lent .before .before) in
-    (ready _ _ _ _ _ (lent .encode-rows-arg3 .given .0) f, f .exact .out, length-take-le _ _ (array-borrow-prefix-many lent))
+    (encodable _ _ _ _ _ _ (lent .encode-rows-arg3 .given .0) f, f .passed .block, length-take-le _ _ (array-borrow-prefix-many lent))
 
 same-length : tie.Need-same-length
 same-length c = search needs
 
 returns-2 : tie.Need-returns-2
+unfolding encoded
 returns-2 c =
     let call = c .before .before .before in
-    let e = call .before .before .before .before .before in
-    call .encode-rows .ensures ∙ sym (encoded-fit _ _ _ _ _ _ (fits e .small) (fits e .exact))
+    let none = clear (call .before .before .before .before .before) in
+    (sym none, call .encode-rows .ensures ∙ sym (unless-done _ _ _ none))
 
 same-length-2 : tie.Need-same-length-2
 same-length-2 c = search needs
 
 returns-3 : tie.Need-returns-3
+unfolding encoded
 returns-3 c =
     let call = c .before .before .before in
-    let e = call .before .before .before .before .before in
-    call .encode-rows2 .ensures ∙ sym (encoded-fit _ _ _ _ _ _ (fits e .small) (fits e .exact))
+    let none = clear (call .before .before .before .before .before) in
+    (sym none, call .encode-rows2 .ensures ∙ sym (unless-done _ _ _ none))
 
 pub encode-spec : {M : Type 1} → statement M
 encode-spec =
     tie.close
     (tie.spec
-    misfit-requires
+    encode-refusal-requires
     returns
     array-borrow-prefix-few
     slice-aggregate-encode-rows

@@ -1,5 +1,5 @@
 -- `share_side::side_of` meets its contract.
-use Rattle.share_side.specs.Weights.{side}
+use Rattle.share_side.specs.Contracts.{planSide}
 use borrow.Author.Needs.{needs}
 use Rattle.share_side.proofs.side_of.Statement.{statement}
 use Rattle.share_side.proofs.side_of.Tie as tie
@@ -41,11 +41,11 @@ cast-t16 : tie.Need-cast-t16
 cast-t16 c = search needs
 
 returns : tie.Need-returns
-unfolding side
+unfolding planSide
 returns c = rw (c .before .before .before .before .before .enum-told .given .1)
 
 returns-2 : tie.Need-returns-2
-unfolding side
+unfolding planSide
 returns-2 c = rw (c .before .before .before .before .before .enum-told2 .given .1)
 
 pub side-of-spec : {M : Type 1} → statement M

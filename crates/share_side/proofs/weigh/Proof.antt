@@ -7,32 +7,23 @@ use borrow.Author.Needs.{needs}
 use lib.ListN.{length, drop, set, length-set}
 use Rattle.algebra.specs.Lists.{tab}
 use Rattle.algebra.proofs.Fronts.{front-none, front-more}
-use Rattle.field.specs.declared.Modulus.{Modulus}
 use Rattle.field.specs.Modulus.{prime}
-use Rattle.layout.specs.declared.Layout.{Layout}
-use Rattle.layout.specs.declared.Parameters.{Parameters}
-use Rattle.layout.specs.declared.Series.{Series}
-use Rattle.layout.specs.Exponents.{exponents, term}
-use Rattle.share_side.specs.Weights.{weighed}
+use Rattle.share_side.specs.Contracts.{weight, weighed}
 use Rattle.share_side.proofs.weigh.Statement.{statement}
 use Rattle.share_side.proofs.weigh.Tie as tie
 
--- the point to an exponent
-abbrev weight : Modulus → Layout → Parameters → Series → ℕ → ℕ → ℕ → ℕ
-weight modulus layout g series row x j = x ^ term (exponents layout g) series row j % prime modulus
-
 abbrev Inv-loop : tie.InvT-loop
-Inv-loop series row x out₀ modulus layout g n j₀ out j =
-    record { is : out ≡ tab (weight modulus layout g series row x) j ++ drop j out₀; short : j ≤ n; same : length out ≡ length out₀ }
+Inv-loop modulus strides series row x out₀ n j₀ out j =
+    record { is : out ≡ tab (weight (prime modulus) strides series x row) j ++ drop j out₀; short : j ≤ n; same : length out ≡ length out₀ }
 
 abbrev μ-loop : tie.MeasureT-loop
-μ-loop series row x out₀ modulus layout g n j₀ out j = n - j
+μ-loop modulus strides series row x out₀ n j₀ out j = n - j
 
 least-requires : tie.Need-least-requires Inv-loop μ-loop
 least-requires c κs = search needs
 
 loop-holds : tie.Need-loop-holds Inv-loop μ-loop
-loop-holds c = record { is = front-none _ (c .before .before .before .args .out .now); short = omega arith; same = refl }
+loop-holds c = record { is = front-none _ (c .before .before .args .out .now); short = omega arith; same = refl }
 
 cast-exponent-of : tie.Need-cast-exponent-of Inv-loop μ-loop
 cast-exponent-of c = omega arith
@@ -58,10 +49,10 @@ loop-less c = omega arith
 loop-again : tie.Need-loop-again Inv-loop μ-loop
 loop-again c =
     let k = c .before .before .before in
-    let a = k .before .before .before .before .args in
+    let a = k .before .before .before .args in
     let l = k .loop in
-    let f = weight (a .plan .modulus) (a .plan .layout) (a .plan .parameters) (a .series) (a .row) (a .x) in
-    let value : c .power .result ≡ f (l .j) = c .power .ensures ∙ ap (λ (n : ℕ). a .x ^ n % prime (a .plan .modulus)) (c .before .exponent-of .ensures) in
+    let f = weight (prime (a .modulus)) (a .strides) (a .series) (a .x) (a .row) in
+    let value : c .power .result ≡ f (l .j) = c .power .ensures ∙ ap (λ (n : ℕ). a .x ^ n % prime (a .modulus)) (c .before .exponent-of .ensures) in
     record {
       is = ap (set (l .out) (l .j)) value ∙ front-more f (a .out .now) (l .out) (l .j) (omega arith) (l .inv .is);
       short = omega arith;
@@ -75,8 +66,8 @@ returns : tie.Need-returns Inv-loop μ-loop
 unfolding weighed
 returns c =
     let l = c .before in
-    let a = l .before .before .before .before .args in
-    let f = weight (a .plan .modulus) (a .plan .layout) (a .plan .parameters) (a .series) (a .row) (a .x) in
+    let a = l .before .before .before .args in
+    let f = weight (prime (a .modulus)) (a .strides) (a .series) (a .x) (a .row) in
     let all : l .loop .j ≡ min (length (a .out .now)) 256 = omega (arith, l .before .least .ensures) in
     l .loop .inv .is ∙ ap (λ (k : ℕ). tab f k ++ drop k (a .out .now)) all
 

@@ -5,7 +5,7 @@ use Prim.Native.Nat.{_-_, _≤_}
 use native.Mathlib.Omega.{arith}
 use lib.ListN.{length, drop, length-set}
 use Rattle.algebra.specs.Lists.{tab}
-use Rattle.sums.specs.Sums.{zeros}
+use Rattle.sums.specs.Contracts.{zeros}
 use Rattle.algebra.proofs.Fronts.{front-none, front-more, front-all}
 use Rattle.sums.proofs.clear.Statement.{statement}
 use Rattle.sums.proofs.clear.Tie as tie

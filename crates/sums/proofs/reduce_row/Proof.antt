@@ -7,7 +7,7 @@ use borrow.Author.Needs.{needs}
 use lib.ListN.{length, getD, drop, set, length-set}
 use Rattle.algebra.specs.Lists.{tab}
 use Rattle.field.specs.Modulus.{prime}
-use Rattle.sums.specs.Sums.{reduced}
+use Rattle.sums.specs.Contracts.{reduced}
 use Rattle.algebra.proofs.Fronts.{front-none, front-more}
 use Rattle.sums.proofs.reduce_row.Statement.{statement}
 use Rattle.sums.proofs.reduce_row.Tie as tie

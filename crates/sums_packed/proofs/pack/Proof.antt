@@ -7,7 +7,7 @@ use borrow.Author.Needs.{needs}
 use lib.ListN.{length, getD, drop, set, length-set}
 use Rattle.algebra.specs.Lists.{tab}
 use Rattle.algebra.proofs.Fronts.{front-none, front-more}
-use Rattle.sums_packed.specs.Packing.{pair, packed}
+use Rattle.sums_packed.specs.Contracts.{pair, packed}
 use Rattle.sums_packed.proofs.pack.Statement.{statement}
 use Rattle.sums_packed.proofs.pack.Tie as tie
 

@@ -10,8 +10,8 @@ use Rattle.algebra.proofs.Lists.{length-tab, getD-tab}
 use Rattle.algebra.proofs.Grids.{tab-cong}
 use Rattle.algebra.proofs.Fronts.{front-none, front-more}
 use Rattle.field.specs.Modulus.{prime}
-use Rattle.sums.specs.Sums.{reduced}
-use Rattle.sums_packed.specs.Packing.{half, halves}
+use Rattle.sums.specs.Contracts.{reduced}
+use Rattle.sums_packed.specs.Contracts.{half, halves}
 use Rattle.sums_packed.proofs.unpack.Statement.{statement}
 use Rattle.sums_packed.proofs.unpack.Tie as tie
 

@@ -7,7 +7,7 @@ use borrow.Author.Needs.{needs}
 use lib.ListN.{length, getD, drop, set, length-set, List·getD-eq-default}
 use Rattle.algebra.specs.Lists.{tab}
 use Rattle.algebra.proofs.Fronts.{front-none, front-more, front-old, front-rest}
-use Rattle.sums_rows.specs.Combination.{plus}
+use Rattle.sums_rows.specs.Contracts.{plus}
 use Rattle.sums_rows.proofs.add_row.Statement.{statement}
 use Rattle.sums_rows.proofs.add_row.Tie as tie
 

@@ -8,10 +8,10 @@ use Rattle.test_groups.proofs.answer_all.Statement.{statement}
 use Rattle.test_groups.proofs.answer_all.Tie as tie
 
 abbrev Inv-loop : tie.InvT-loop
-Inv-loop points a b masks-a masks-b messages₀ place₀ messages place = length messages ≡ length messages₀
+Inv-loop points a b masks-a masks-b messages₀ place₀ messages index = length messages ≡ length messages₀
 
 abbrev μ-loop : tie.MeasureT-loop
-μ-loop points a b masks-a masks-b messages₀ place₀ messages place = 20 - place
+μ-loop points a b masks-a masks-b messages₀ place₀ messages index = 20 - index
 
 loop-holds : tie.Need-loop-holds Inv-loop μ-loop
 loop-holds c = refl
@@ -46,8 +46,8 @@ same-length c = search needs
 returns : tie.Need-returns Inv-loop μ-loop
 returns c = search needs
 
-add-place : tie.Need-add-place Inv-loop μ-loop
-add-place c = omega arith
+add-index : tie.Need-add-index Inv-loop μ-loop
+add-index c = omega arith
 
 loop-less : tie.Need-loop-less Inv-loop μ-loop
 loop-less c = omega arith
@@ -78,7 +78,7 @@ answer-all-spec =
     answer-requires
     same-length
     returns
-    add-place
+    add-index
     loop-less
     loop-again
     same-length-2

@@ -8,10 +8,10 @@ use Rattle.test_groups.proofs.hear_set.Statement.{statement}
 use Rattle.test_groups.proofs.hear_set.Tie as tie
 
 abbrev Inv-loop : tie.InvT-loop
-Inv-loop set from step points store₀ messages heard₀ place₀ i₀ store heard place i = record { same : length store ≡ length store₀; inside : place < 20 }
+Inv-loop set from step points store₀ messages heard₀ place₀ i₀ store heard index i = record { same : length store ≡ length store₀; inside : index < 20 }
 
 abbrev μ-loop : tie.MeasureT-loop
-μ-loop set from step points store₀ messages heard₀ place₀ i₀ store heard place i = 20 - i
+μ-loop set from step points store₀ messages heard₀ place₀ i₀ store heard index i = 20 - i
 
 loop-holds : tie.Need-loop-holds Inv-loop μ-loop
 loop-holds c = omega arith
@@ -19,8 +19,8 @@ loop-holds c = omega arith
 hear-requires : tie.Need-hear-requires Inv-loop μ-loop
 hear-requires c κs = search needs
 
-add-place : tie.Need-add-place Inv-loop μ-loop
-add-place c = omega arith
+add-index : tie.Need-add-index Inv-loop μ-loop
+add-index c = omega arith
 
 add-i : tie.Need-add-i Inv-loop μ-loop
 add-i c = omega arith
@@ -45,7 +45,7 @@ hear-set-spec =
     μ-loop
     loop-holds
     hear-requires
-    add-place
+    add-index
     add-i
     loop-less
     loop-again

@@ -1,0 +1,49 @@
+//! Calls with faults put in, each by itself and two at once.
+
+/// A fault: the refusal number that it brings by itself, and what it changes in a call.
+pub type Fault<T> = (u32, fn(&mut T));
+
+/// Calls with the refusal number that each must get, 0 for one that is done.
+pub type Expected<T> = Vec<(T, u32)>;
+
+/// Each fault alone, and each two of unlike number together. The faults stand in the order of the
+/// sheet's tests, so the earlier one is due. It is put in after the later one, so that a list is
+/// damaged before it is cut.
+pub fn alone_and_in_pairs<T: Clone>(base: &T, faults: &[Fault<T>]) -> Expected<T> {
+    let mut calls = Vec::new();
+    for (i, first) in faults.iter().enumerate() {
+        calls.push((faulty(base, &[first]), first.0));
+        for later in faults[i + 1..].iter().filter(|fault| fault.0 != first.0) {
+            calls.push((faulty(base, &[later, first]), first.0));
+        }
+    }
+    calls
+}
+
+/// A call with faults put in, one after another.
+fn faulty<T: Clone>(base: &T, faults: &[&Fault<T>]) -> T {
+    let mut call = base.clone();
+    faults.iter().for_each(|fault| (fault.1)(&mut call));
+    call
+}
+
+/// A list with a wrong length: empty, one short, one long, and twice as long.
+pub fn wrong_lengths(list: &[u32]) -> Vec<Vec<u32>> {
+    let short = list[..list.len() - 1].to_vec();
+    let long = [list, &[0]].concat();
+    vec![Vec::new(), short, long, list.repeat(2)]
+}
+
+/// A list with q - 1, q and 2^32 - 1 at its front and at its end, and with the number that is due
+/// for such an element.
+pub fn border_elements(list: &[u32], q: u32, number: u32) -> Expected<Vec<u32>> {
+    let mut lists = Vec::new();
+    for at in [0, list.len() - 1] {
+        for (element, due) in [(q - 1, 0), (q, number), (u32::MAX, number)] {
+            let mut changed = list.to_vec();
+            changed[at] = element;
+            lists.push((changed, due));
+        }
+    }
+    lists
+}

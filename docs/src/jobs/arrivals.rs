@@ -1,0 +1,236 @@
+//! Cases of arrivals by themselves, each from hosts heard and a store of its own.
+
+use super::faults::{limits, spoilt, HEARD, SMALL};
+use crate::calls::damage;
+use crate::calls::messages::FIELDS;
+use crate::cases::faults::{border_elements, Expected, Fault};
+use crate::sheet::job_call::{Act, JobCall};
+use crate::sheet::message::{message, Fields};
+use crate::sheet::plan::Line;
+use crate::sheet::random::Random;
+use crate::sheet::whole_job::{written, WholeJob};
+
+/// All cases whose refusal number is known from the way they are made.
+pub fn expected(random: &mut Random) -> Expected<JobCall> {
+    let groups = [
+        fault_pairs(random),
+        damaged(random),
+        foreign(random),
+        lengths(random),
+        elements(random),
+        heard_numbers(random),
+        limits(Act::Arrive),
+        long_messages(random),
+    ];
+    groups.concat()
+}
+
+/// An arrival at a job with points 1..N: anything is in the store, hosts 1, 2 and 5 are heard, and
+/// the message is a host's true product.
+fn drawn(random: &mut Random, line: Line, host: u32) -> JobCall {
+    let whole = WholeJob::drawn(random, line, (1..=line[9]).collect());
+    let mut call = whole.call(Act::Arrive);
+    call.store = random.words(call.store.len());
+    call.heard = 0b10011;
+    call.message = whole.message(host);
+    call
+}
+
+/// The faults of an arrival of host 3 at `SMALL` that are no faults of its plan, in the order of
+/// the tests.
+const FAULTS: [Fault<JobCall>; 27] = [
+    (21, |call| call.heard |= 1 << 10),
+    (21, |call| call.heard = u64::MAX),
+    (13, |call| call.store.truncate(79)),
+    (13, |call| call.store.truncate(72)),
+    (13, |call| call.store.push(0)),
+    (17, |call| call.message.clear()),
+    (17, |call| call.message.truncate(15)),
+    (18, |call| call.message[1] = 0x64),
+    (19, |call| call.message[4] = 0),
+    (16, |call| call.message[5] = 4),
+    (1, |call| call.message[6] = 4),
+    (12, |call| call.message[7] = 0),
+    (12, |call| call.message[7] = 65),
+    (2, |call| sizes(call, 0, 4)),
+    (6, |call| sizes(call, 64, 65)),
+    (20, |call| call.message.truncate(44)),
+    (20, |call| call.message.push(0)),
+    (14, |call| call.message[44] = 0x80),
+    (14, |call| call.message[6] = 1),
+    (22, |call| call.message[5] = 1),
+    (22, |call| call.message[6] = 3),
+    (22, |call| sizes(call, 4, 2)),
+    (22, |call| sizes(call, 1, 8)),
+    (22, |call| call.message[15] ^= 1),
+    (12, |call| call.message[7] = 11),
+    (12, |call| call.message[7] = 64),
+    (23, |call| call.heard |= 0b100),
+];
+
+/// Sets rows and columns in a message.
+fn sizes(call: &mut JobCall, rows: u16, columns: u16) {
+    call.message[8..10].copy_from_slice(&rows.to_be_bytes());
+    call.message[10..12].copy_from_slice(&columns.to_be_bytes());
+}
+
+/// Each fault alone and in pairs; some element is above 12, so that the message has 14 when its
+/// modulus is 13.
+fn fault_pairs(random: &mut Random) -> Expected<JobCall> {
+    let mut base = drawn(random, SMALL, 3);
+    base.message[30..32].copy_from_slice(&[0, 200]);
+    let mut calls = spoilt(&base, &FAULTS);
+    calls.push((base, 0));
+    calls
+}
+
+/// The damaged messages of reading, given to a job with their number, modulus and sizes. Those
+/// that reading allows are fit but for their host 64, or are not this job's.
+fn damaged(random: &mut Random) -> Expected<JobCall> {
+    let base = JobCall {
+        job_number: FIELDS.job_number,
+        ..drawn(random, SMALL, 3)
+    };
+    let readings = damage::single_faults(random).into_iter();
+    let readings = readings.filter(|(call, _)| call.room >= 4096 && call.message.len() < 100);
+    readings
+        .map(|(reading, due)| {
+            let message = reading.message;
+            let due = if due == 0 { due_of_fit(&message) } else { due };
+            let call = base.clone();
+            (JobCall { message, ..call }, due)
+        })
+        .collect()
+}
+
+/// What is due for a message that reading allows: the headers that differ from that of the
+/// reading cases at most in the host are the job's.
+fn due_of_fit(bytes: &[u8]) -> u32 {
+    let mut header = message(&FIELDS, &[]);
+    header[7] = bytes[7];
+    if bytes[..16] != header {
+        22
+    } else if bytes[7] > 10 {
+        12
+    } else {
+        23
+    }
+}
+
+/// Fit messages that are not this job's, from hosts heard and not heard, with elements that both
+/// moduli allow and with some that only the message's own does; host numbers above N.
+fn foreign(random: &mut Random) -> Expected<JobCall> {
+    let base = drawn(random, SMALL, 3);
+    let own = Fields {
+        host: 3,
+        job_number: base.job_number,
+        ..FIELDS
+    };
+    let other: [fn(&mut Fields); 14] = [
+        |fields| fields.kind = 1,
+        |fields| fields.kind = 2,
+        |fields| fields.modulus = 1,
+        |fields| fields.modulus = 3,
+        |fields| fields.job_number = 0,
+        |fields| fields.job_number = u32::MAX,
+        |fields| fields.job_number ^= 1 << 31,
+        |fields| fields.job_number ^= 1 << 16,
+        |fields| (fields.rows, fields.columns) = (4, 2),
+        |fields| (fields.rows, fields.columns) = (8, 1),
+        |fields| (fields.rows, fields.columns) = (1, 8),
+        |fields| fields.rows = 3,
+        |fields| fields.columns = 3,
+        |fields| (fields.rows, fields.columns) = (4, 8),
+    ];
+    let mut calls = Vec::new();
+    for change in other {
+        for host in [1, 3, 10, 11, 64] {
+            let mut fields = Fields { host, ..own };
+            change(&mut fields);
+            let q = if fields.modulus == 3 { 65537 } else { 13 };
+            let elements = random.elements((fields.rows * fields.columns) as usize, q);
+            let message = written(&fields, &elements);
+            let call = base.clone();
+            calls.push((JobCall { message, ..call }, 22));
+        }
+    }
+    calls
+}
+
+/// Stores of wrong lengths, for a message that is fit and for one that is none.
+fn lengths(random: &mut Random) -> Expected<JobCall> {
+    let mut calls = Vec::new();
+    for line in [SMALL, [3, 6, 2, 2, 2, 1, 1, 1, 2, 7]] {
+        let base = drawn(random, line, 3);
+        let length = base.store.len();
+        let block = length / line[9] as usize;
+        for wrong in [
+            0,
+            1,
+            block,
+            length - block,
+            length - 1,
+            length + 1,
+            length + block,
+        ] {
+            let mut call = base.clone();
+            call.store.resize(wrong, 0);
+            calls.push((call.clone(), 13));
+            call.message = vec![0x4D];
+            calls.push((call, 13));
+        }
+    }
+    calls
+}
+
+/// Elements at the border of the field, for all moduli; a block all 0 and one all q - 1.
+fn elements(random: &mut Random) -> Expected<JobCall> {
+    let mut calls = Vec::new();
+    for (modulus, q) in [(1, 13), (2, 257), (3, 65537)] {
+        let mut line = SMALL;
+        line[0] = modulus;
+        let base = drawn(random, line, 3);
+        let block = random.elements(8, q);
+        let mut blocks = border_elements(&block, q, 14);
+        blocks.extend([(vec![0; 8], 0), (vec![q - 1; 8], 0)]);
+        for (elements, due) in blocks {
+            let mut call = base.clone();
+            call.message.truncate(16);
+            let bytes = elements.iter().flat_map(|element| element.to_be_bytes());
+            call.message.extend(bytes);
+            calls.push((call, due));
+        }
+    }
+    calls
+}
+
+/// Numbers of hosts heard at and beyond N: the lowest host and host N send an answer.
+fn heard_numbers(random: &mut Random) -> Expected<JobCall> {
+    let mut calls = Vec::new();
+    for (hosts, heard, above) in HEARD {
+        for host in [1, hosts] {
+            let mut call = drawn(random, [2, 1, 1, 1, 1, 1, 1, 1, 1, hosts], host);
+            call.heard = heard;
+            let due = match heard >> (host - 1) & 1 {
+                _ if above => 21,
+                0 => 0,
+                _ => 23,
+            };
+            calls.push((call, due));
+        }
+    }
+    calls
+}
+
+/// Messages of 4096 and of 4097 elements.
+fn long_messages(random: &mut Random) -> Expected<JobCall> {
+    let base = drawn(random, SMALL, 3);
+    let mut calls = Vec::new();
+    for (rows, columns, length, due) in [(64, 64, 16_400, 22), (1, 4097, 16_404, 6)] {
+        let mut call = base.clone();
+        call.message.resize(length, 0);
+        sizes(&mut call, rows, columns);
+        calls.push((call, due));
+    }
+    calls
+}

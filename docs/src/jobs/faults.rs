@@ -1,0 +1,165 @@
+//! What cases of arrivals and of decodings have in common: a job to start from, its plan's faults,
+//! jobs at the limits, and numbers of hosts heard.
+//!
+//!   SMALL    the job from which cases with faults start
+//!   spoilt   calls on it with faults put in, alone and in pairs
+//!   limits   calls on jobs at the limits of a plan
+//!   HEARD    numbers of hosts heard
+//!   last_of  the last element of a list
+
+use crate::calls::messages::{sized, FIELDS};
+use crate::cases::faults::{alone_and_in_pairs, Expected, Fault};
+use crate::sheet::job_call::{Act, JobCall};
+use crate::sheet::message::{message, Fields};
+use crate::sheet::plan::{Job, Line};
+
+/// A job over q = 257: layout 1, K = 9 of 10 hosts, answers of 2 by 4 elements.
+pub const SMALL: Line = [2, 4, 3, 8, 2, 1, 2, 2, 1, 10];
+
+/// The faults of `SMALL`'s plan, in the order of the tests; the first of each number is tried
+/// together with others.
+const PLAN_FAULTS: [Fault<JobCall>; 28] = [
+    (1, |call| call.job.modulus = 4),
+    (1, |call| call.job.modulus = 0),
+    (1, |call| call.job.modulus = u32::MAX),
+    (2, |call| call.job.s = 16385),
+    (2, |call| call.job.t = 0),
+    (2, |call| call.job.r = u32::MAX),
+    (3, |call| call.job.p = 9),
+    (3, |call| call.job.m = 0),
+    (3, |call| call.job.n = u32::MAX),
+    (4, |call| call.job.x_a = 0),
+    (4, |call| call.job.x_b = 17),
+    (5, |call| call.job.r = 9),
+    (5, |call| call.job.t = 5),
+    (5, |call| call.job.p = 2),
+    (6, |call| (call.job.t, call.job.r) = (130, 130)),
+    (6, |call| call.job.t = 2732),
+    (6, |call| call.job.r = 2732),
+    (7, |call| with_hosts(call, 65)),
+    (7, |call| call.job.hosts = 0),
+    (8, |call| with_hosts(call, 8)),
+    (8, |call| call.job.x_b = 2),
+    (9, |call| call.points.truncate(9)),
+    (9, |call| call.points.push(11)),
+    (9, |call| call.points.clear()),
+    (10, |call| call.points[7] = 257),
+    (10, |call| call.points[0] = 0),
+    (11, |call| call.points[9] = 3),
+    (11, |call| (call.points[3], call.points[7]) = (2, 0)),
+];
+
+/// Gives a call another number of hosts, with some of its points left out or more put in.
+fn with_hosts(call: &mut JobCall, hosts: u32) {
+    call.job.hosts = hosts;
+    call.points.truncate(hosts as usize);
+    call.points.extend(call.points.len() as u32 + 1..=hosts);
+}
+
+/// Calls on `SMALL` with points 1..10: each fault of the plan alone, then one of each number and
+/// all faults of the call itself, alone and in pairs.
+pub fn spoilt(base: &JobCall, own: &[Fault<JobCall>]) -> Expected<JobCall> {
+    let mut calls = Vec::new();
+    let mut paired: Vec<Fault<JobCall>> = Vec::new();
+    for fault in PLAN_FAULTS {
+        if paired.iter().any(|other| other.0 == fault.0) {
+            let mut call = base.clone();
+            (fault.1)(&mut call);
+            calls.push((call, fault.0));
+        } else {
+            paired.push(fault);
+        }
+    }
+    paired.extend(own);
+    calls.extend(alone_and_in_pairs(base, &paired));
+    calls
+}
+
+/// Jobs at the limits of a plan, points 1..N, with the number that is due; those that are fit have
+/// answers of one element. The plan of the last four is accepted, but they need a longer store
+/// than a case can give.
+const LIMITS: [(Line, u32); 22] = [
+    ([1, 1, 1, 1, 1, 1, 1, 1, 1, 12], 0),
+    ([1, 1, 1, 1, 1, 1, 1, 1, 1, 13], 7),
+    ([1, 1, 1, 1, 1, 1, 1, 1, 1, 3], 0),
+    ([1, 1, 1, 1, 1, 1, 1, 1, 1, 2], 8),
+    ([2, 1, 1, 1, 1, 1, 1, 1, 1, 64], 0),
+    ([2, 1, 1, 1, 1, 1, 1, 1, 1, 65], 7),
+    ([2, 4, 3, 4, 4, 3, 4, 2, 2, 64], 8),
+    ([3, 3, 2, 2, 3, 2, 2, 7, 7, 38], 0),
+    ([3, 3, 2, 2, 3, 2, 2, 7, 7, 37], 8),
+    ([3, 65, 1, 64, 1, 1, 1, 1, 1, 3], 6),
+    ([2, 4097, 1, 1, 1, 1, 1, 1, 1, 3], 6),
+    ([2, 1, 1, 4097, 1, 1, 1, 1, 1, 3], 6),
+    ([2, 1, 4097, 1, 1, 1, 1, 1, 1, 3], 6),
+    ([2, 1, 16384, 1, 1, 4, 1, 1, 1, 9], 0),
+    ([2, 1, 16385, 1, 1, 5, 1, 1, 1, 12], 2),
+    ([3, 8, 8, 8, 8, 8, 8, 16, 16, 64], 8),
+    ([3, 9, 8, 8, 9, 8, 8, 16, 16, 64], 3),
+    ([3, 1, 1, 1, 1, 1, 1, 16, 17, 64], 4),
+    ([3, 64, 64, 64, 1, 1, 1, 1, 1, 64], 13),
+    ([3, 16384, 1, 1, 4, 1, 1, 1, 1, 9], 13),
+    ([3, 1, 1, 16384, 1, 1, 4, 1, 1, 9], 13),
+    ([2, 1366, 1, 1, 1, 1, 1, 1, 1, 3], 13),
+];
+
+/// Calls on the jobs at the limits, with nothing in the store and no host heard: an arrival of host
+/// 1, which is fit if the job is, or a decoding, for which 24 is due then.
+pub fn limits(act: Act) -> Expected<JobCall> {
+    let mut calls = Vec::new();
+    for (line, due) in LIMITS {
+        let job = Job::of_line(&line);
+        let length = (job.t / job.m * (job.r / job.n) * job.hosts) as usize;
+        let fields = Fields {
+            modulus: job.modulus,
+            host: 1,
+            ..sized(1, 1)
+        };
+        let mut call = JobCall {
+            act,
+            job,
+            job_number: FIELDS.job_number,
+            points: (1..=job.hosts).collect(),
+            ..JobCall::telling(vec![0; if length <= 4096 { length } else { 0 }])
+        };
+        match act {
+            Act::Arrive => call.message = message(&fields, &[0]),
+            _ => call.room = (job.t * job.r).min(4096) as usize,
+        }
+        let due = match act {
+            Act::Decode if due == 0 => 24,
+            _ => due,
+        };
+        calls.push((call, due));
+    }
+    calls
+}
+
+/// For a number of hosts: hosts heard, and whether one of them is above N.
+pub const HEARD: [(u32, u64, bool); 20] = [
+    (3, 0b111, false),
+    (3, 0b1000, true),
+    (3, 0b1111, true),
+    (3, 1 << 32, true),
+    (3, 1 << 63, true),
+    (3, u64::MAX, true),
+    (31, 1 << 31, true),
+    (31, (1 << 31) - 1, false),
+    (32, 1 << 31, false),
+    (32, 1 << 32, true),
+    (32, (1 << 32) - 1, false),
+    (33, 1 << 32, false),
+    (33, 1 << 33, true),
+    (63, (1 << 63) - 1, false),
+    (63, 1 << 63, true),
+    (63, u64::MAX, true),
+    (64, u64::MAX, false),
+    (64, 1 << 63, false),
+    (64, 7 << 61, false),
+    (64, 0, false),
+];
+
+/// The last element of a list.
+pub fn last_of(elements: &mut [u32]) -> &mut u32 {
+    elements.last_mut().expect("an element")
+}

@@ -1,0 +1,29 @@
+//! The sheet's calls, worked out from the papers.
+//!
+//!   random       a small deterministic generator with a fixed seed
+//!   plan         the tests of a plan, both layouts, the recovery threshold K, the choice
+//!   plan_check   the plan against brute force and against the values checked by hand
+//!   listing      the plan lister's text in and out
+//!   share        the shares of A and of B
+//!   product      a host's product
+//!   message      messages, written and read
+//!   signed       signed reading and its way back
+//!   job_call     calls on a job that is under way, and the tests that they make first
+//!   arrival      an answer's arrival
+//!   interpolate  interpolation, by a system of linear equations
+//!   decode       the table, decoded
+//!   whole_job    a job with its matrices and masks, its true products and its table
+
+pub mod arrival;
+pub mod decode;
+mod interpolate;
+pub mod job_call;
+pub mod listing;
+pub mod message;
+pub mod plan;
+pub mod plan_check;
+pub mod product;
+pub mod random;
+pub mod share;
+pub mod signed;
+pub mod whole_job;

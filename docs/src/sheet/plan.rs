@@ -1,0 +1,203 @@
+//! The plan of a job (01, "The job", "Exponents" and "What is turned down").
+//!
+//!   Line       a job's numbers as the lister reads them
+//!   Job        the public numbers that the plan's tests look at
+//!   prime      the modulus q of a modulus number
+//!   refusal    the first of the numbers 1 to 11 that fits a job and its evaluation points
+//!   Layout     the exponents of blocks and masks, the places of C, the recovery threshold K
+//!   choose     the layout that is used
+
+/// The ten numbers that the lister reads: modulus number, t, s, r, m, p, n, X_A, X_B, N.
+pub type Line = [u32; 10];
+
+/// A job's public numbers, in the order in which the lister reads them.
+#[derive(Clone, Copy)]
+pub struct Job {
+    pub modulus: u32,
+    pub t: u32,
+    pub s: u32,
+    pub r: u32,
+    pub m: u32,
+    pub p: u32,
+    pub n: u32,
+    pub x_a: u32,
+    pub x_b: u32,
+    pub hosts: u32,
+}
+
+impl Job {
+    /// The job whose numbers stand in a line of ten.
+    pub fn of_line(line: &Line) -> Job {
+        let [modulus, t, s, r, m, p, n, x_a, x_b, hosts] = *line;
+        Job {
+            modulus,
+            t,
+            s,
+            r,
+            m,
+            p,
+            n,
+            x_a,
+            x_b,
+            hosts,
+        }
+    }
+
+    /// The job's numbers as a line of ten.
+    pub fn line(&self) -> Line {
+        let Job {
+            modulus,
+            t,
+            s,
+            r,
+            m,
+            p,
+            n,
+            x_a,
+            x_b,
+            hosts,
+        } = *self;
+        [modulus, t, s, r, m, p, n, x_a, x_b, hosts]
+    }
+}
+
+/// The prime q that a modulus number stands for; there is none for any other number.
+pub fn prime(modulus: u32) -> Option<u32> {
+    match modulus {
+        1 => Some(13),
+        2 => Some(257),
+        3 => Some(65537),
+        _ => None,
+    }
+}
+
+/// The first refusal number that fits the plan, in the sheet's order; none if it is accepted.
+pub fn refusal(job: &Job, points: &[u32]) -> Option<u32> {
+    number_refusal(job).or_else(|| point_refusal(job, points))
+}
+
+/// The tests 1 to 8, on the numbers alone.
+fn number_refusal(job: &Job) -> Option<u32> {
+    let Some(q) = prime(job.modulus) else {
+        return Some(1);
+    };
+    if !all_within(&[job.t, job.s, job.r], 1, 16384) {
+        return Some(2);
+    }
+    if !all_within(&[job.m, job.p, job.n], 1, 8) {
+        return Some(3);
+    }
+    if !all_within(&[job.x_a, job.x_b], 1, 16) {
+        return Some(4);
+    }
+    if job.t % job.m != 0 || job.s % job.p != 0 || job.r % job.n != 0 {
+        return Some(5);
+    }
+    if block_sizes(job).iter().any(|&size| size > 4096) {
+        return Some(6);
+    }
+    if !all_within(&[job.hosts], 1, 64) || job.hosts > q - 1 {
+        return Some(7);
+    }
+    if choose(job).needed > job.hosts {
+        return Some(8);
+    }
+    None
+}
+
+/// The tests 9 to 11, on the evaluation points of a job that passed 1 to 8. Test 9 is on the
+/// whole list; 10 and 11 go point by point, so the first bad point decides.
+fn point_refusal(job: &Job, points: &[u32]) -> Option<u32> {
+    let q = prime(job.modulus)?;
+    if points.len() != job.hosts as usize {
+        return Some(9);
+    }
+    for (i, point) in points.iter().enumerate() {
+        if *point == 0 || *point >= q {
+            return Some(10);
+        }
+        if points[..i].contains(point) {
+            return Some(11);
+        }
+    }
+    None
+}
+
+/// Whether each number lies in low..high, both included.
+pub fn all_within(numbers: &[u32], low: u32, high: u32) -> bool {
+    numbers.iter().all(|number| (low..=high).contains(number))
+}
+
+/// How many elements an A block, a B block and an answer block hold.
+fn block_sizes(job: &Job) -> [u32; 3] {
+    let (rows, inner, columns) = (job.t / job.m, job.s / job.p, job.r / job.n);
+    [rows * inner, inner * columns, rows * columns]
+}
+
+/// A layout: exponents row by row, places of the table blocks row by row, and the recovery
+/// threshold K.
+pub struct Layout {
+    pub number: u32,
+    pub a_blocks: Vec<u32>,
+    pub a_masks: Vec<u32>,
+    pub b_blocks: Vec<u32>,
+    pub b_masks: Vec<u32>,
+    pub places: Vec<u32>,
+    pub needed: u32,
+}
+
+/// Layout 1: document 000, equations 16 (A), 17 (B), 18 (the degree K - 1) and 20 (places of C).
+pub fn layout_one(job: &Job) -> Layout {
+    let Job {
+        m, p, n, x_a, x_b, ..
+    } = *job;
+    let d = n * p + x_b;
+    Layout {
+        number: 1,
+        a_blocks: grid(m, p, |k, l| (k - 1) * d + l - 1),
+        a_masks: series(x_a, |x| (m - 1) * d + n * p + x - 1),
+        b_blocks: grid(p, n, |l, j| (j - 1) * p + p - l),
+        b_masks: series(x_b, |x| n * p + x - 1),
+        places: grid(m, n, |k, j| (k - 1) * d + j * p - 1),
+        needed: (m + 1) * d + x_a - x_b - 1,
+    }
+}
+
+/// Layout 2: document 000, equations 21 (A) and 22 (B) and the threshold given below them; the
+/// places of C are the sheet's.
+pub fn layout_two(job: &Job) -> Layout {
+    let Job {
+        m, p, n, x_a, x_b, ..
+    } = *job;
+    let e = m * p + x_a;
+    Layout {
+        number: 2,
+        a_blocks: grid(m, p, |k, l| (k - 1) * p + l - 1),
+        a_masks: series(x_a, |x| m * p + x - 1),
+        b_blocks: grid(p, n, |l, j| (j - 1) * e + p - l),
+        b_masks: series(x_b, |x| (n - 1) * e + m * p + x - 1),
+        places: grid(m, n, |k, j| (j - 1) * e + k * p - 1),
+        needed: (n + 1) * e + x_b - x_a - 1,
+    }
+}
+
+/// The layout with the smaller recovery threshold, at a tie layout 1.
+pub fn choose(job: &Job) -> Layout {
+    let (one, two) = (layout_one(job), layout_two(job));
+    if two.needed < one.needed {
+        two
+    } else {
+        one
+    }
+}
+
+/// The values of a formula over a grid of blocks, row by row, both indices from 1.
+fn grid(rows: u32, columns: u32, formula: impl Fn(u32, u32) -> u32) -> Vec<u32> {
+    let cells = (1..=rows).flat_map(|row| (1..=columns).map(move |column| (row, column)));
+    cells.map(|(row, column)| formula(row, column)).collect()
+}
+
+/// The values of a formula over the masks, which are counted from 1.
+fn series(count: u32, formula: impl Fn(u32) -> u32) -> Vec<u32> {
+    (1..=count).map(formula).collect()
+}
