@@ -1,12 +1,17 @@
 // The hosts' work: both shares as messages, their product, and the answer's message.
-use crate::sharing::MOST_BLOCK;
-use crate::sharing::block_room;
-use crate::sharing::block_size;
-use crate::sharing::message_room;
+ghost use Prim.Native.Nat.{_<_};
+use crate::rooms::Sizes;
+use crate::rooms::answer_size;
+use crate::rooms::message_size;
+use crate::rooms::part;
+use crate::rooms::share_of_a;
+use crate::rooms::share_of_b;
+use crate::rooms::size_a;
+use crate::rooms::size_b;
+use message::Parsed;
 use message_header::Header;
-use message_header::Reading;
 use plan::Job;
-use plan::Plan;
+use refusal::MOST_ELEMENTS;
 use words::least;
 
 // The kinds of a message.
@@ -16,12 +21,23 @@ const SHARE_OF_B: u32 = 2;
 
 const ANSWER: u32 = 3;
 
-// The fields of a message of this job.
-fn header_of(kind: u32, job: Job, host: u32, rows: u32, columns: u32) -> Header {
+// The turn of a host: the job, the sizes of its blocks, the number of answers needed, the host's number, and the hosts heard
+// before.
+pub(crate) struct Turn {
+    pub(crate) job: Job,
+    pub(crate) sizes: Sizes,
+    pub(crate) needed: u32,
+    pub(crate) host: u32,
+    pub(crate) heard: u64,
+}
+
+// The fields of a message to or from the host whose turn it is.
+fn header_of(kind: u32, turn: Turn, rows: u32, columns: u32) -> Header {
+    let job = turn.job;
     Header {
         kind,
         modulus: job.modulus,
-        host,
+        host: turn.host,
         rows,
         columns,
         number: job.number,
@@ -29,39 +45,60 @@ fn header_of(kind: u32, job: Job, host: u32, rows: u32, columns: u32) -> Header 
 }
 
 // Writes a block's message, and reads it at the other end.
-fn write_and_read(h: Header, xs: &[u32], bytes: &mut [u8], out: &mut [u32]) -> u32 {
-    let number = message::write_message(h, xs, bytes);
+fn write_and_read(h: Header, xs: &[u32], message: &mut [u8], out: &mut [u32]) -> u32 {
+    let number = message::write_message(h, xs, message);
     if number != 0 {
         return number;
     }
-    match message::read_message(bytes, out) {
-        Reading::Refused(number) => number,
-        Reading::Done(_) => 0,
+    match message::read_message(message, out) {
+        Parsed::Refused(number) => number,
+        Parsed::Fields(_) => 0,
     }
 }
 
 // Sends a block as a message.
-fn send(h: Header, xs: &[u32], out: &mut [u32]) -> u32 {
-    let mut bytes = message_room();
-    let n = 16 + 4 * least(xs.len(), MOST_BLOCK);
-    write_and_read(h, xs, &mut bytes[..n], out)
+fn send(h: Header, xs: &[u32], message: &mut [u8], out: &mut [u32]) -> u32 {
+    let n = least(message_size(xs.len()), message.len());
+    write_and_read(h, xs, &mut message[..n], out)
 }
 
-// Multiplies two shares, and writes the answer's message.
-fn write_product(
-    job: Job,
-    plan: Plan,
-    host: u32,
-    a: &[u32],
-    b: &[u32],
-    product: &mut [u32],
-    message: &mut [u8],
-) -> u32 {
+// Sends a host both its shares: A's comes in at the front of its room, B's from the middle on.
+fn send_shares(turn: Turn, shares: &[u32], pair: &mut [u32], message: &mut [u8]) -> u32
+    requires { ⌜ 0 < turn .host ⌝ }
+{
+    let sizes = turn.sizes;
+    let index = turn.host - 1;
+    let a = share_of_a(shares, sizes, index);
+    let b = share_of_b(shares, sizes, index);
+    let middle = least(MOST_ELEMENTS, pair.len());
+    let number = send(
+        header_of(SHARE_OF_A, turn, sizes.rows, sizes.inner),
+        a,
+        message,
+        &mut pair[..middle],
+    );
+    if number != 0 {
+        return number;
+    }
+    send(
+        header_of(SHARE_OF_B, turn, sizes.inner, sizes.columns),
+        b,
+        message,
+        &mut pair[middle..],
+    )
+}
+
+// Multiplies a host's two shares, and writes its answer's message.
+fn multiply(turn: Turn, pair: &[u32], product: &mut [u32], message: &mut [u8]) -> u32 {
+    let job = turn.job;
+    let sizes = turn.sizes;
+    let a = part(pair, 0, size_a(sizes));
+    let b = part(pair, MOST_ELEMENTS, size_b(sizes));
     let number = product::product(
         job.modulus,
-        plan.rows,
-        plan.inner,
-        plan.columns,
+        sizes.rows,
+        sizes.inner,
+        sizes.columns,
         a,
         b,
         product,
@@ -69,52 +106,31 @@ fn write_product(
     if number != 0 {
         return number;
     }
-    let h = header_of(ANSWER, job, host, plan.rows, plan.columns);
-    message::write_message(h, product, message)
-}
-
-// Multiplies two shares, and writes the answer's message: a block in between.
-fn multiply(job: Job, plan: Plan, host: u32, a: &[u32], b: &[u32], message: &mut [u8]) -> u32 {
-    let mut product = block_room();
-    let n = block_size(plan.rows, plan.columns);
-    write_product(job, plan, host, a, b, &mut product[..n], message)
-}
-
-// What a host does: gets both shares as messages, multiplies them and writes its answer's message.
-pub(crate) fn work(
-    job: Job,
-    plan: Plan,
-    host: u32,
-    a: &[u32],
-    b: &[u32],
-    message: &mut [u8],
-) -> u32 {
-    let mut left = block_room();
-    let mut right = block_room();
-    let left_size = block_size(plan.rows, plan.inner);
-    let right_size = block_size(plan.inner, plan.columns);
-    let first = send(
-        header_of(SHARE_OF_A, job, host, plan.rows, plan.inner),
-        a,
-        &mut left,
-    );
-    if first != 0 {
-        return first;
-    }
-    let second = send(
-        header_of(SHARE_OF_B, job, host, plan.inner, plan.columns),
-        b,
-        &mut right,
-    );
-    if second != 0 {
-        return second;
-    }
-    multiply(
-        job,
-        plan,
-        host,
-        &left[..left_size],
-        &right[..right_size],
+    message::write_message(
+        header_of(ANSWER, turn, sizes.rows, sizes.columns),
+        product,
         message,
     )
+}
+
+// What a host does: gets both shares as messages, multiplies them and writes its answer's message. Returns the number of the
+// first refusal, or 0.
+pub(crate) fn work(
+    turn: Turn,
+    shares: &[u32],
+    pair: &mut [u32],
+    product: &mut [u32],
+    message: &mut [u8],
+) -> u32
+    requires { ⌜ 0 < turn .host ⌝ }
+{
+    let number = send_shares(turn, shares, pair, message);
+    if number != 0 {
+        return number;
+    }
+    let sizes = turn.sizes;
+    let size = answer_size(sizes);
+    let n = least(size, product.len());
+    let length = least(message_size(size), message.len());
+    multiply(turn, pair, &mut product[..n], &mut message[..length])
 }

@@ -21,11 +21,11 @@ pub(crate) fn say_refused(number: u32) {
     say(b"\n");
 }
 
-// Prints the line and column of the byte at a place of the text.
-pub(crate) fn say_place(text: &[u8], at: usize) {
-    let place = text_numbers::place_of(text, at);
-    say_number(b" at line ", place.line as u64);
-    say_number(b", column ", place.column as u64);
+// Prints the line and column of the byte at an offset of the text.
+pub(crate) fn say_position(text: &[u8], at: usize) {
+    let position = text_numbers::position_of(text, at);
+    say_number(b" at line ", position.line as u64);
+    say_number(b", column ", position.column as u64);
 }
 
 // Prints the front of a buffer.
@@ -34,19 +34,12 @@ pub(crate) fn say_front(out: &[u8], count: usize) {
     io::write_all(STDOUT_FILENO, &out[..n]);
 }
 
-// Writes some bytes and a number.
-pub(crate) fn put(out: &mut [u8], at: usize, bytes: &[u8], n: u32) -> usize
-    ensures { λ _. ⌜ length (now (out .exit)) ≡ length (now (out .entry)) ⌝ }
-{
-    let next = text::put_bytes(out, at, bytes);
-    text::put_decimal(out, next, n)
-}
-
 // Writes a space and a number.
 pub(crate) fn put_value(out: &mut [u8], at: usize, n: u32) -> usize
     ensures { λ _. ⌜ length (now (out .exit)) ≡ length (now (out .entry)) ⌝ }
 {
-    put(out, at, b" ", n)
+    let next = text::put_bytes(out, at, b" ");
+    text::put_decimal(out, next, n)
 }
 
 // Writes the end of a line.

@@ -4,8 +4,8 @@ ghost use Prim.Native.Nat.{_≤_, _<_};
 ghost use lib.ListN.{length};
 use crate::printing::say;
 use crate::printing::say_number;
-use crate::printing::say_place;
-use text_numbers::Numbers;
+use crate::printing::say_position;
+use text_numbers::ReadOutcome;
 use words::least;
 
 // The sections, in their order.
@@ -29,10 +29,10 @@ const SECTIONS: usize = 7;
 // How many bytes the longest word has.
 const LONGEST: usize = 7;
 
-// Places in a text are below this.
-const MOST_TEXT: usize = 65536;
+// A text must be shorter than this.
+pub(crate) const MOST_TEXT: usize = 65536;
 
-// What reading a section answers: the place after it, and how many numbers are read by then; or that something is wrong,
+// What reading a section returns: the offset after it, and how many numbers are read by then; or that something is wrong,
 // which is printed.
 enum Read {
     Done(usize, usize),
@@ -90,26 +90,26 @@ fn say_word(section: usize)
 
 // ---- what is wrong with a text
 
-// Prints which word was expected at a place.
+// Prints which word was expected at an offset.
 fn say_expected(text: &[u8], section: usize, at: usize)
     requires { ⌜ section < 7 ⌝ }
 {
     say(b"EXPECTED the word ");
     say_word(section);
-    say_place(text, at);
+    say_position(text, at);
     say(b"\n");
 }
 
-// Prints that a number is too large, or that there is none, at a place.
+// Prints that a number is too large, or that there is none, at an offset.
 fn say_fault(text: &[u8], at: usize) {
     if text_numbers::is_digit_at(text, at) {
         say(b"NUMBER TOO LARGE");
-        say_place(text, at);
+        say_position(text, at);
         say(b": the largest is 4294967295\n");
         return;
     }
     say(b"NO NUMBER");
-    say_place(text, at);
+    say_position(text, at);
     say(b"\n");
 }
 
@@ -133,13 +133,18 @@ fn front_of(text: &[u8], count: usize) -> &[u8] {
     &text[..n]
 }
 
-// The text from a place on; nothing past its end.
-pub(crate) fn rest_of(text: &[u8], at: usize) -> &[u8] {
+// The text from an offset on; nothing past its end.
+fn rest_of(text: &[u8], at: usize) -> &[u8] {
     let n = least(at, text.len());
     &text[n..]
 }
 
-// The place that is so much further on, in a text or in its numbers.
+// The text without the UTF-8 mark.
+pub(crate) fn past_mark(text: &[u8]) -> &[u8] {
+    rest_of(text, text_numbers::mark_length(text))
+}
+
+// The offset that is so much further on, in a text or in its numbers.
 fn further(at: usize, more: usize) -> usize
     ensures { λ r. ⌜ r ≤ 131072 ⌝ }
 {
@@ -157,7 +162,7 @@ pub(crate) fn numbers_of<'a>(numbers: &'a [u32], starts: &[usize; 8], section: u
 
 // ---- reading
 
-// Reads the numbers from a place of the text up to the next word, and puts them past the numbers that are read already.
+// Reads the numbers from an offset of the text up to the next word, and puts them past the numbers that are read already.
 fn read_part(text: &[u8], at: usize, numbers: &mut [u32], count: usize) -> Read
     ensures { λ _. ⌜ length (now (numbers .exit)) ≡ length (now (numbers .entry)) ⌝ }
 {
@@ -165,15 +170,15 @@ fn read_part(text: &[u8], at: usize, numbers: &mut [u32], count: usize) -> Read
     let end = text_numbers::first_word(after);
     let start = least(count, numbers.len());
     match text_numbers::read_numbers(front_of(after, end), &mut numbers[start..]) {
-        Numbers::Fault(fault) => {
+        ReadOutcome::Fault(fault) => {
             say_fault(text, further(at, fault));
             Read::Wrong
         }
-        Numbers::Read(more) => Read::Done(further(at, end), further(count, more)),
+        ReadOutcome::Read(more) => Read::Done(further(at, end), further(count, more)),
     }
 }
 
-// Reads a section at a place of the text.
+// Reads a section at an offset of the text.
 fn read_section(text: &[u8], section: usize, at: usize, numbers: &mut [u32], count: usize) -> Read
     requires { ⌜ section < 7 ⌝ }
     ensures { λ _. ⌜ length (now (numbers .exit)) ≡ length (now (numbers .entry)) ⌝ }
@@ -186,7 +191,7 @@ fn read_section(text: &[u8], section: usize, at: usize, numbers: &mut [u32], cou
     read_part(text, further(at, word.len()), numbers, count)
 }
 
-// Reads all sections: where the numbers of each start and end, and the line of its word. Tells whether the text is as it
+// Reads all sections: where the numbers of each start and end, and the line of its word. Returns whether the text is as it
 // should be, and prints the first thing that is wrong.
 pub(crate) fn read_sections(
     text: &[u8],
@@ -201,8 +206,8 @@ pub(crate) fn read_sections(
         let Read::Done(next, more) = read_section(text, section, at, numbers, count) else {
             return false;
         };
-        let place = text_numbers::place_of(text, at);
-        lines[section] = place.line;
+        let position = text_numbers::position_of(text, at);
+        lines[section] = position.line;
         starts[section] = count;
         at = next;
         count = more;
@@ -211,7 +216,7 @@ pub(crate) fn read_sections(
     starts[SECTIONS] = count;
     if at < text.len() {
         say(b"EXPECTED the end of the text");
-        say_place(text, at);
+        say_position(text, at);
         say(b"\n");
         return false;
     }

@@ -1,64 +1,18 @@
-// Sizes of blocks, room for them, and the shares of all hosts.
-ghost use mathlib.Core.Path.{_≡_};
+// The shares of all hosts.
 ghost use Prim.Native.Nat.{_≤_};
-ghost use lib.ListN.{length};
+use crate::planning::Whole;
+use crate::rooms::ELEMENT_ROOM;
+use crate::rooms::blocks;
+use crate::rooms::size_a;
+use crate::rooms::size_b;
+use crate::sections;
+use crate::sections::numbers_of;
 use plan::Job;
-use share_side::Matrix;
+use share::Matrix;
 use words::least;
 
-// The most hosts.
-const MOST_HOSTS: usize = 64;
-
-// A block and its message, at most.
-pub(crate) const MOST_BLOCK: usize = 4096;
-
-const MOST_MESSAGE: usize = 16400;
-
-// The most elements of a table, and of a block for each host.
-pub(crate) const MOST_ELEMENTS: usize = 32768;
-
-// Room for a message. Of this and the next two, lending needs the length alone.
-pub(crate) fn message_room() -> [u8; MOST_MESSAGE]
-    ensures { λ r. ⌜ 16400 ≡ length r ⌝ }
-{
-    [0; MOST_MESSAGE]
-}
-
-// Room for a block.
-pub(crate) fn block_room() -> [u32; MOST_BLOCK]
-    ensures { λ r. ⌜ 4096 ≡ length r ⌝ }
-{
-    [0; MOST_BLOCK]
-}
-
-// Room for a table, or for the blocks of all hosts.
-pub(crate) fn element_room() -> [u32; MOST_ELEMENTS]
-    ensures { λ r. ⌜ 32768 ≡ length r ⌝ }
-{
-    [0; MOST_ELEMENTS]
-}
-
-// How many elements a matrix of these sizes has.
-pub(crate) fn area(rows: u32, columns: u32) -> usize {
-    words::wide_product(rows, columns) as usize
-}
-
-// How many elements a block of these sizes has, at most 4096.
-pub(crate) fn block_size(rows: u32, columns: u32) -> usize
-    ensures { λ r. ⌜ r ≤ 4096 ⌝ }
-{
-    least(area(rows, columns), MOST_BLOCK)
-}
-
-// How many elements so many blocks of a size have; there are at most 64, of at most 4096.
-pub(crate) fn blocks(count: u32, size: usize) -> usize
-    ensures { λ r. ⌜ r ≤ 262144 ⌝ }
-{
-    least(count as usize, MOST_HOSTS) * least(size, MOST_BLOCK)
-}
-
-// Makes the shares of a matrix for all hosts, one after another; tells the number of the first refusal, or 0.
-pub(crate) fn share_all(
+// Makes the shares of a matrix for all hosts, one after another; returns the number of the first refusal, or 0.
+fn share_all(
     matrix: Matrix,
     job: Job,
     points: &[u32],
@@ -69,9 +23,9 @@ pub(crate) fn share_all(
 ) -> u32
     requires { ⌜ size ≤ 4096 ⌝ }
 {
-    let mut place = 0;
-    while place < job.hosts {
-        let start = blocks(place, size);
+    let mut index = 0;
+    while index < job.hosts {
+        let start = blocks(index, size);
         let end = start + size;
         if out.len() < end {
             return refusal::LENGTH;
@@ -80,7 +34,7 @@ pub(crate) fn share_all(
             matrix,
             job,
             points,
-            place + 1,
+            index + 1,
             xs,
             masks,
             &mut out[start..end],
@@ -88,7 +42,41 @@ pub(crate) fn share_all(
         if number != 0 {
             return number;
         }
-        place += 1;
+        index += 1;
     }
     0
+}
+
+// Makes the shares of A and then of B for all hosts; returns the number of the first refusal, or 0.
+pub(crate) fn share_both(whole: Whole, numbers: &[u32], shares: &mut [u32]) -> u32 {
+    let job = whole.job;
+    let sizes = whole.sizes;
+    let starts = whole.starts;
+    let points = numbers_of(numbers, &starts, sections::POINTS);
+    let a = numbers_of(numbers, &starts, sections::A);
+    let masks_a = numbers_of(numbers, &starts, sections::MASKS_A);
+    let b = numbers_of(numbers, &starts, sections::B);
+    let masks_b = numbers_of(numbers, &starts, sections::MASKS_B);
+    let middle = least(ELEMENT_ROOM, shares.len());
+    let number = share_all(
+        Matrix::A,
+        job,
+        points,
+        a,
+        masks_a,
+        size_a(sizes),
+        &mut shares[..middle],
+    );
+    if number != 0 {
+        return number;
+    }
+    share_all(
+        Matrix::B,
+        job,
+        points,
+        b,
+        masks_b,
+        size_b(sizes),
+        &mut shares[middle..],
+    )
 }

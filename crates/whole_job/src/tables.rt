@@ -1,32 +1,24 @@
 // The table, decoded and printed.
 ghost use mathlib.Core.Path.{_≡_};
 ghost use lib.ListN.{length};
+use crate::planning::Whole;
 use crate::printing::say;
 use crate::printing::say_front;
 use crate::printing::say_refused;
-use crate::sharing::MOST_ELEMENTS;
-use crate::sharing::area;
-use crate::sharing::element_room;
-use plan::Job;
+use crate::rooms::area;
+use crate::sections;
+use crate::sections::numbers_of;
 use field_signed::Signed;
+use plan::Job;
 use words::least;
 
-// Room for lines, and the bytes of it after which it is printed.
-const LINE_ROOM: usize = 8192;
-
-const LINE_FULL: usize = 8000;
+// The bytes of a page after which it is printed.
+const PAGE_FULL: usize = 4000;
 
 // The signed reading of an element of 32 bits lies between these.
 const LOWEST: i64 = -2147483647;
 
 const HIGHEST: i64 = 2147483647;
-
-// Room for lines. Lending needs its length alone.
-fn line_room() -> [u8; LINE_ROOM]
-    ensures { λ r. ⌜ 8192 ≡ length r ⌝ }
-{
-    [0; LINE_ROOM]
-}
 
 // The size of a number, without its sign; 0 for one that is none of a reading's.
 fn size_of(x: i64) -> u32 {
@@ -75,12 +67,12 @@ fn put_element(out: &mut [u8], at: usize, modulus: u32, v: u32, by_sign: bool) -
     text::put_decimal(out, at, v)
 }
 
-// Prints what is written so far where the buffer is nearly full, and tells where to go on.
-fn flush(out: &[u8], at: usize) -> usize {
-    if at < LINE_FULL {
+// Prints what is written so far where the page is nearly full, and returns the offset to go on at.
+fn flush(page: &[u8], at: usize) -> usize {
+    if at < PAGE_FULL {
         return at;
     }
-    say_front(out, at);
+    say_front(page, at);
     0
 }
 
@@ -105,7 +97,7 @@ fn next_column(column: u32, columns: u32) -> u32 {
     0
 }
 
-// Writes the rows of a table, as elements or by their signed reading, and prints all but what it tells is left.
+// Writes the rows of a table, as elements or by their signed reading, and prints all but what it returns the length of.
 fn put_rows(out: &mut [u8], modulus: u32, columns: u32, table: &[u32], by_sign: bool) -> usize {
     let mut at = 0;
     let mut column = 0;
@@ -121,27 +113,42 @@ fn put_rows(out: &mut [u8], modulus: u32, columns: u32, table: &[u32], by_sign: 
 }
 
 // Prints the rows of a table, as elements or by their signed reading.
-fn say_rows(modulus: u32, columns: u32, table: &[u32], by_sign: bool) {
-    let mut out = line_room();
-    let n = put_rows(&mut out, modulus, columns, table, by_sign);
-    say_front(&out, n);
+fn say_rows(modulus: u32, columns: u32, table: &[u32], by_sign: bool, page: &mut [u8]) {
+    let n = put_rows(page, modulus, columns, table, by_sign);
+    say_front(page, n);
 }
 
 // Decodes the table and prints it and its signed reading, or the number of the refusal.
-fn decode_into(job: Job, points: &[u32], heard: u64, store: &[u32], table: &mut [u32]) {
+fn decode_into(
+    job: Job,
+    points: &[u32],
+    heard: u64,
+    store: &[u32],
+    table: &mut [u32],
+    page: &mut [u8],
+) {
     let number = decode::decode(job, points, heard, store, table);
     if number != 0 {
         return say_refused(number);
     }
     say(b"TABLE\n");
-    say_rows(job.modulus, job.r, table, false);
+    say_rows(job.modulus, job.r, table, false, page);
     say(b"SIGNED READING\n");
-    say_rows(job.modulus, job.r, table, true);
+    say_rows(job.modulus, job.r, table, true, page);
 }
 
-// Decodes and prints the table.
-pub(crate) fn say_table(job: Job, points: &[u32], heard: u64, store: &[u32]) {
-    let mut table = element_room();
-    let n = least(area(job.t, job.r), MOST_ELEMENTS);
-    decode_into(job, points, heard, store, &mut table[..n]);
+// Decodes and prints the table, in its room.
+pub(crate) fn say_table(
+    whole: Whole,
+    numbers: &[u32],
+    heard: u64,
+    store: &[u32],
+    table: &mut [u32],
+    page: &mut [u8],
+) {
+    let job = whole.job;
+    let starts = whole.starts;
+    let points = numbers_of(numbers, &starts, sections::POINTS);
+    let n = least(area(job.t, job.r), table.len());
+    decode_into(job, points, heard, store, &mut table[..n], page);
 }

@@ -10,58 +10,67 @@ slice-aggregate-say-answer : tie.Need-slice-aggregate-say-answer
 slice-aggregate-say-answer c = search needs
 
 say-answer-requires : tie.Need-say-answer-requires
-say-answer-requires c κs = search needs
+say-answer-requires c κs = tt
 
 returns : tie.Need-returns
-returns c = search needs
+returns c = tt
 
 say-turned-down-requires : tie.Need-say-turned-down-requires
-say-turned-down-requires c κs = search needs
+say-turned-down-requires c κs = tt
 
 returns-2 : tie.Need-returns-2
-returns-2 c = search needs
+returns-2 c = tt
 
-message-room-requires : tie.Need-message-room-requires
-message-room-requires c κs = search needs
+work-requires : tie.Need-work-requires
+work-requires c κs = search needs
 
-block-size-requires : tie.Need-block-size-requires
-block-size-requires c κs = search needs
-
-mul-n : tie.Need-mul-n
-mul-n c = search needs
-
-add-n : tie.Need-add-n
-add-n c = search needs
-
-sub-place : tie.Need-sub-place
-sub-place c = search needs
-
-block-size-requires-2 : tie.Need-block-size-requires-2
-block-size-requires-2 c κs = search needs
-
-block-at-requires : tie.Need-block-at-requires
-block-at-requires c κs = search needs
-
-block-size-requires-3 : tie.Need-block-size-requires-3
-block-size-requires-3 c κs = search needs
-
-block-at-requires-2 : tie.Need-block-at-requires-2
-block-at-requires-2 c κs = search needs
-
-array-borrow-prefix-message : tie.Need-array-borrow-prefix-message
-array-borrow-prefix-message c = search needs
-
-slice-aggregate-take-answer : tie.Need-slice-aggregate-take-answer
-slice-aggregate-take-answer c = sym (length-take-le _ _ (omega arith))
-
-take-answer-requires : tie.Need-take-answer-requires
-take-answer-requires c κs = search needs
+say-turned-down-requires-2 : tie.Need-say-turned-down-requires-2
+say-turned-down-requires-2 c κs = tt
 
 same-length : tie.Need-same-length
-same-length c = search needs
+same-length c = omega arith
+
+same-length-2 : tie.Need-same-length-2
+same-length-2 c = omega arith
+
+same-length-3 : tie.Need-same-length-3
+same-length-3 c = omega arith
 
 returns-3 : tie.Need-returns-3
-returns-3 c = search needs
+returns-3 c = tt
+
+answer-size-requires : tie.Need-answer-size-requires
+answer-size-requires c κs = tt
+
+message-size-requires : tie.Need-message-size-requires
+message-size-requires c κs = tt
+
+least-requires : tie.Need-least-requires
+least-requires c κs = tt
+
+slice-reshare-prefix-take-message : tie.Need-slice-reshare-prefix-take-message
+slice-reshare-prefix-take-message c = search needs
+
+slice-aggregate-take-message : tie.Need-slice-aggregate-take-message
+slice-aggregate-take-message c = sym (length-take-le _ _ (omega arith))
+
+take-message-requires : tie.Need-take-message-requires
+take-message-requires c κs = tt
+
+same-length-4 : tie.Need-same-length-4
+same-length-4 c = omega arith
+
+same-length-5 : tie.Need-same-length-5
+same-length-5 c = omega arith
+
+same-length-6 : tie.Need-same-length-6
+same-length-6 c = omega arith
+
+same-length-7 : tie.Need-same-length-7
+same-length-7 c = omega arith
+
+returns-4 : tie.Need-returns-4
+returns-4 c = tt
 
 pub hear-spec : {M : Type 1} → statement M
 hear-spec =
@@ -72,17 +81,20 @@ hear-spec =
     returns
     say-turned-down-requires
     returns-2
-    message-room-requires
-    block-size-requires
-    mul-n
-    add-n
-    sub-place
-    block-size-requires-2
-    block-at-requires
-    block-size-requires-3
-    block-at-requires-2
-    array-borrow-prefix-message
-    slice-aggregate-take-answer
-    take-answer-requires
+    work-requires
+    say-turned-down-requires-2
     same-length
-    returns-3)
+    same-length-2
+    same-length-3
+    returns-3
+    answer-size-requires
+    message-size-requires
+    least-requires
+    slice-reshare-prefix-take-message
+    slice-aggregate-take-message
+    take-message-requires
+    same-length-4
+    same-length-5
+    same-length-6
+    same-length-7
+    returns-4)

@@ -8,10 +8,10 @@ use Rattle.whole_job.proofs.arrivals.put_heard.Statement.{statement}
 use Rattle.whole_job.proofs.arrivals.put_heard.Tie as tie
 
 abbrev Inv-loop : tie.InvT-loop
-Inv-loop out₀ heard at₀ place₀ out at place = length out ≡ length out₀
+Inv-loop out₀ heard at₀ index₀ out at index = length out ≡ length out₀
 
 abbrev μ-loop : tie.MeasureT-loop
-μ-loop out₀ heard at₀ place₀ out at place = 64 - place
+μ-loop out₀ heard at₀ index₀ out at index = 64 - index
 
 loop-holds : tie.Need-loop-holds Inv-loop μ-loop
 loop-holds c = refl
@@ -19,8 +19,8 @@ loop-holds c = refl
 put-host-requires : tie.Need-put-host-requires Inv-loop μ-loop
 put-host-requires c κs = search needs
 
-add-place : tie.Need-add-place Inv-loop μ-loop
-add-place c = omega arith
+add-index : tie.Need-add-index Inv-loop μ-loop
+add-index c = omega arith
 
 loop-less : tie.Need-loop-less Inv-loop μ-loop
 loop-less c = omega arith
@@ -45,7 +45,7 @@ put-heard-spec =
     μ-loop
     loop-holds
     put-host-requires
-    add-place
+    add-index
     loop-less
     loop-again
     put-end-requires

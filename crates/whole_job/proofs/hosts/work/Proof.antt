@@ -6,83 +6,75 @@ use borrow.Author.Needs.{needs}
 use Rattle.whole_job.proofs.hosts.work.Statement.{statement}
 use Rattle.whole_job.proofs.hosts.work.Tie as tie
 
-block-room-requires : tie.Need-block-room-requires
-block-room-requires c κs = search needs
+send-shares-requires : tie.Need-send-shares-requires
+send-shares-requires c κs = search needs
 
-block-room-requires-2 : tie.Need-block-room-requires-2
-block-room-requires-2 c κs = search needs
+same-length : tie.Need-same-length
+same-length c = omega arith
 
-block-size-requires : tie.Need-block-size-requires
-block-size-requires c κs = search needs
-
-block-size-requires-2 : tie.Need-block-size-requires-2
-block-size-requires-2 c κs = search needs
-
-header-of-requires : tie.Need-header-of-requires
-header-of-requires c κs = search needs
-
-slice-aggregate-send : tie.Need-slice-aggregate-send
-slice-aggregate-send c = search needs
-
-send-requires : tie.Need-send-requires
-send-requires c κs = search needs
+same-length-2 : tie.Need-same-length-2
+same-length-2 c = omega arith
 
 returns : tie.Need-returns
-returns c = search needs
+returns c = tt
 
-header-of-requires-2 : tie.Need-header-of-requires-2
-header-of-requires-2 c κs = search needs
+answer-size-requires : tie.Need-answer-size-requires
+answer-size-requires c κs = tt
 
-slice-aggregate-send-2 : tie.Need-slice-aggregate-send-2
-slice-aggregate-send-2 c = search needs
+least-requires : tie.Need-least-requires
+least-requires c κs = tt
 
-send-requires-2 : tie.Need-send-requires-2
-send-requires-2 c κs = search needs
+message-size-requires : tie.Need-message-size-requires
+message-size-requires c κs = tt
 
-returns-2 : tie.Need-returns-2
-returns-2 c = search needs
+least-requires-2 : tie.Need-least-requires-2
+least-requires-2 c κs = tt
 
-array-share-prefix-left : tie.Need-array-share-prefix-left
-array-share-prefix-left c = search needs
+slice-relend-prefix-multiply : tie.Need-slice-relend-prefix-multiply
+slice-relend-prefix-multiply c = search needs
 
 slice-aggregate-multiply : tie.Need-slice-aggregate-multiply
 slice-aggregate-multiply c = sym (length-take-le _ _ (omega arith))
 
-array-share-prefix-right : tie.Need-array-share-prefix-right
-array-share-prefix-right c = search needs
+slice-relend-prefix-multiply-2 : tie.Need-slice-relend-prefix-multiply-2
+slice-relend-prefix-multiply-2 c = search needs
 
 slice-aggregate-multiply-2 : tie.Need-slice-aggregate-multiply-2
 slice-aggregate-multiply-2 c = sym (length-take-le _ _ (omega arith))
 
 multiply-requires : tie.Need-multiply-requires
-multiply-requires c κs = search needs
+multiply-requires c κs = tt
 
-same-length : tie.Need-same-length
-same-length c = search needs
+same-length-3 : tie.Need-same-length-3
+same-length-3 c = omega arith
 
-returns-3 : tie.Need-returns-3
-returns-3 c = search needs
+same-length-4 : tie.Need-same-length-4
+same-length-4 c = omega arith
+
+same-length-5 : tie.Need-same-length-5
+same-length-5 c = omega arith
+
+returns-2 : tie.Need-returns-2
+returns-2 c = tt
 
 pub work-spec : {M : Type 1} → statement M
 work-spec =
     tie.close
     (tie.spec
-    block-room-requires
-    block-room-requires-2
-    block-size-requires
-    block-size-requires-2
-    header-of-requires
-    slice-aggregate-send
-    send-requires
+    send-shares-requires
+    same-length
+    same-length-2
     returns
-    header-of-requires-2
-    slice-aggregate-send-2
-    send-requires-2
-    returns-2
-    array-share-prefix-left
+    answer-size-requires
+    least-requires
+    message-size-requires
+    least-requires-2
+    slice-relend-prefix-multiply
     slice-aggregate-multiply
-    array-share-prefix-right
+    slice-relend-prefix-multiply-2
     slice-aggregate-multiply-2
     multiply-requires
-    same-length
-    returns-3)
+    same-length-3
+    same-length-4
+    same-length-5
+    returns-2)

@@ -36,8 +36,8 @@ same-length c = search needs
 returns : tie.Need-returns Inv-loop μ-loop
 returns c = search needs
 
-place-of-requires : tie.Need-place-of-requires Inv-loop μ-loop
-place-of-requires c κs = search needs
+position-of-requires : tie.Need-position-of-requires Inv-loop μ-loop
+position-of-requires c κs = search needs
 
 mul-lines : tie.Need-mul-lines Inv-loop μ-loop
 mul-lines c = omega arith
@@ -69,8 +69,8 @@ slice-aggregate-say c = search needs
 say-requires : tie.Need-say-requires Inv-loop μ-loop
 say-requires c κs = search needs
 
-say-place-requires : tie.Need-say-place-requires Inv-loop μ-loop
-say-place-requires c κs = search needs
+say-position-requires : tie.Need-say-position-requires Inv-loop μ-loop
+say-position-requires c κs = search needs
 
 slice-aggregate-say-2 : tie.Need-slice-aggregate-say-2 Inv-loop μ-loop
 slice-aggregate-say-2 c = search needs
@@ -103,7 +103,7 @@ read-sections-spec =
     enum-told
     same-length
     returns
-    place-of-requires
+    position-of-requires
     mul-lines
     element-write-lines
     mul-starts
@@ -114,7 +114,7 @@ read-sections-spec =
     element-write-starts-2
     slice-aggregate-say
     say-requires
-    say-place-requires
+    say-position-requires
     slice-aggregate-say-2
     say-requires-2
     same-length-2

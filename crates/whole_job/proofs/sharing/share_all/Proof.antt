@@ -8,10 +8,10 @@ use Rattle.whole_job.proofs.sharing.share_all.Statement.{statement}
 use Rattle.whole_job.proofs.sharing.share_all.Tie as tie
 
 abbrev Inv-loop : tie.InvT-loop
-Inv-loop matrix job points xs masks size out₀ place₀ out place = length out ≡ length out₀
+Inv-loop matrix job points xs masks size out₀ index₀ out index = length out ≡ length out₀
 
 abbrev μ-loop : tie.MeasureT-loop
-μ-loop matrix job points xs masks size out₀ place₀ out place = job .hosts - place
+μ-loop matrix job points xs masks size out₀ index₀ out index = job .hosts - index
 
 loop-holds : tie.Need-loop-holds Inv-loop μ-loop
 loop-holds c = refl
@@ -52,8 +52,8 @@ same-length-2 c = search needs
 returns-2 : tie.Need-returns-2 Inv-loop μ-loop
 returns-2 c = search needs
 
-add-place : tie.Need-add-place Inv-loop μ-loop
-add-place c = omega arith
+add-index : tie.Need-add-index Inv-loop μ-loop
+add-index c = omega arith
 
 loop-less : tie.Need-loop-less Inv-loop μ-loop
 loop-less c = omega arith
@@ -86,7 +86,7 @@ share-all-spec =
     share-requires
     same-length-2
     returns-2
-    add-place
+    add-index
     loop-less
     loop-again
     same-length-3

@@ -6,35 +6,43 @@ use borrow.Author.Needs.{needs}
 use Rattle.whole_job.proofs.tables.say_table.Statement.{statement}
 use Rattle.whole_job.proofs.tables.say_table.Tie as tie
 
-element-room-requires : tie.Need-element-room-requires
-element-room-requires c κs = search needs
+numbers-of-requires : tie.Need-numbers-of-requires
+numbers-of-requires c κs = search needs
 
 area-requires : tie.Need-area-requires
-area-requires c κs = search needs
+area-requires c κs = tt
 
 least-requires : tie.Need-least-requires
-least-requires c κs = search needs
+least-requires c κs = tt
 
-array-borrow-prefix-table : tie.Need-array-borrow-prefix-table
-array-borrow-prefix-table c = search needs
+slice-relend-prefix-decode-into : tie.Need-slice-relend-prefix-decode-into
+slice-relend-prefix-decode-into c = search needs
 
 slice-aggregate-decode-into : tie.Need-slice-aggregate-decode-into
 slice-aggregate-decode-into c = sym (length-take-le _ _ (omega arith))
 
 decode-into-requires : tie.Need-decode-into-requires
-decode-into-requires c κs = search needs
+decode-into-requires c κs = tt
+
+same-length : tie.Need-same-length
+same-length c = omega arith
+
+same-length-2 : tie.Need-same-length-2
+same-length-2 c = omega arith
 
 returns : tie.Need-returns
-returns c = search needs
+returns c = tt
 
 pub say-table-spec : {M : Type 1} → statement M
 say-table-spec =
     tie.close
     (tie.spec
-    element-room-requires
+    numbers-of-requires
     area-requires
     least-requires
-    array-borrow-prefix-table
+    slice-relend-prefix-decode-into
     slice-aggregate-decode-into
     decode-into-requires
+    same-length
+    same-length-2
     returns)

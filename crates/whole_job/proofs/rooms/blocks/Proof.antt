@@ -1,10 +1,10 @@
--- `whole_job::sharing::blocks` meets its contract.
+-- `whole_job::rooms::blocks` meets its contract.
 use Prim.Native.Nat.{_*_, _≤_}
 use native.Mathlib.Nat.{mul-le-mul}
 use native.Mathlib.Omega.{arith}
 use borrow.Author.Needs.{needs}
-use Rattle.whole_job.proofs.sharing.blocks.Statement.{statement}
-use Rattle.whole_job.proofs.sharing.blocks.Tie as tie
+use Rattle.whole_job.proofs.rooms.blocks.Statement.{statement}
+use Rattle.whole_job.proofs.rooms.blocks.Tie as tie
 
 least-requires : tie.Need-least-requires
 least-requires c κs = search needs

@@ -1,15 +1,15 @@
--- `whole_job::has_all` meets its contract.
+-- `whole_job::planning::has_all` meets its contract.
 use Prim.Native.Nat.{_-_, _≤_}
 use native.Mathlib.Omega.{arith}
 use borrow.Author.Needs.{needs}
-use Rattle.whole_job.proofs.has_all.Statement.{statement}
-use Rattle.whole_job.proofs.has_all.Tie as tie
+use Rattle.whole_job.proofs.planning.has_all.Statement.{statement}
+use Rattle.whole_job.proofs.planning.has_all.Tie as tie
 
 abbrev Inv-loop : tie.InvT-loop
-Inv-loop job plan numbers starts lines section₀ section = section ≤ 6
+Inv-loop job sizes numbers starts lines section₀ section = section ≤ 6
 
 abbrev μ-loop : tie.MeasureT-loop
-μ-loop job plan numbers starts lines section₀ section = 6 - section
+μ-loop job sizes numbers starts lines section₀ section = 6 - section
 
 loop-holds : tie.Need-loop-holds Inv-loop μ-loop
 loop-holds c = omega arith
