@@ -6,6 +6,7 @@
 --   prime m     == the prime of a modulus
 --   number m    == the number of a modulus
 --   named n     == the modulus of modulus number n
+--   modulusIn x == the modulus of a name; a number that names none is refused, so what stands here for it does not matter
 --   told x      == what a name is on paper: the modulus's number, or refusal 1
 use mathlib.Core.Bool.{Bool}
 use mathlib.Core.List.{List, [], _∷_}
@@ -38,6 +39,10 @@ number Q65537 = 3
 
 unfoldable pub named : ℕ → Named
 named n = getD (Unknown ∷ Is Q13 ∷ Is Q257 ∷ Is Q65537 ∷ []) n Unknown
+
+abbrev pub modulusIn : Named → Modulus
+modulusIn (Is m) = m
+modulusIn Unknown = Q13
 
 abbrev pub told : Named → Told ℕ
 told (Is m) = done (number m ∷ [])

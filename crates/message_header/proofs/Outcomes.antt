@@ -14,7 +14,7 @@ use Rattle.refusal.proofs.Chains.{outcome-refused}
 use Rattle.field.specs.declared.Modulus.{Modulus}
 use Rattle.field.specs.declared.Named.{Named}
 use Rattle.field.specs.declared.Named.the-variants.{Is, Unknown}
-use Rattle.field.specs.Modulus.{noModulus, named}
+use Rattle.field.specs.Modulus.{noModulus, named, modulusIn}
 use Rattle.field.proofs.Moduli.{none-named}
 use Rattle.message_header.specs.declared.Header.{Header}
 use Rattle.message_header.specs.declared.Checked.the-variants.{Fit}
@@ -22,7 +22,7 @@ use Rattle.message_header.specs.declared.Checked.the-variants.{Refused a
 use Rattle.message_header.specs.declared.Opened.the-variants.{Fields}
 use Rattle.message_header.specs.declared.Opened.the-variants.{Refused as Opened·Refused}
 use Rattle.message_header.specs.Header.{headerOf, fieldTests, headerTests, fields}
-use Rattle.message_header.specs.Contracts.{modulusIn, checked, opened}
+use Rattle.message_header.specs.Contracts.{checked, opened}
 use Rattle.message_header.proofs.Fields.{ranged, headed}
 
 pub refused-by : {A : Type 0} (value : A) (refused : ℕ → A) (number n : ℕ) → (n ≡ 0 → ⊥) → number ≡ n → refused n ≡ outcome number value refused

@@ -1,17 +1,12 @@
 -- What the calls of this crate return, which only contracts cite.
 --
---   modulusIn x     == the modulus of a name; fields that name none are refused, so what stands here for them does not matter
 --   checked h       == what the tests of the fields return: their modulus, or the number of the first test that holds
 --   opened message  == what reading a message's header returns: its fields and their modulus, or the number of the first test
 --                      that holds
 use mathlib.Core.List.{List}
 use Prim.Native.Nat.{ℕ}
 use Rattle.refusal.specs.Chain.{first, outcome}
-use Rattle.field.specs.declared.Modulus.{Modulus}
-use Rattle.field.specs.declared.Modulus.the-variants.{Q13}
-use Rattle.field.specs.declared.Named.{Named}
-use Rattle.field.specs.declared.Named.the-variants.{Is, Unknown}
-use Rattle.field.specs.Modulus.{named}
+use Rattle.field.specs.Modulus.{named, modulusIn}
 use Rattle.message_header.specs.declared.Header.{Header}
 use Rattle.message_header.specs.declared.Checked.{Checked}
 use Rattle.message_header.specs.declared.Checked.the-variants.{Fit}
@@ -20,10 +15,6 @@ use Rattle.message_header.specs.declared.Opened.{Opened}
 use Rattle.message_header.specs.declared.Opened.the-variants.{Fields}
 use Rattle.message_header.specs.declared.Opened.the-variants.{Refused as Opened·Refused}
 use Rattle.message_header.specs.Header.{headerOf, fieldTests, headerTests}
-
-abbrev pub modulusIn : Named → Modulus
-modulusIn (Is m) = m
-modulusIn Unknown = Q13
 
 unfoldable pub checked : Header → Checked
 checked h = outcome (first (fieldTests h)) (Fit (modulusIn (named (h .modulus)))) Checked·Refused

@@ -16,13 +16,13 @@ use Rattle.refusal.specs.Chain.{first, outcome, done, refused as Chain·refused
 use Rattle.refusal.proofs.Chains.{first-hit, first-miss, first-append, first-append-hit, outcome-done, outcome-refused, outcome-map, numbered}
 use Rattle.field.specs.declared.Modulus.{Modulus}
 use Rattle.field.specs.declared.Named.the-variants.{Is}
-use Rattle.field.specs.Modulus.{noModulus, named}
+use Rattle.field.specs.Modulus.{noModulus, named, modulusIn}
 use Rattle.layout.specs.declared.Parameters.{Parameters}
 use Rattle.layout.specs.declared.Layout.{Layout}
 use Rattle.layout.specs.Exponents.{exponents, choice}
 use Rattle.plan.specs.declared.Job.{Job}
 use Rattle.plan.specs.declared.Planned.the-variants.{Accepted, Refused}
-use Rattle.plan.specs.Planning.{parameters, prime, known, modulusOf, blockRows, blockInner, blockColumns, layoutOf, neededOf, planOf, rangeTests, fitTests, pointTests, planTests, planned, told, planValues}
+use Rattle.plan.specs.Planning.{parameters, prime, modulusOf, blockRows, blockInner, blockColumns, layoutOf, neededOf, planOf, rangeTests, fitTests, pointTests, planTests, planned, told, planValues}
 
 module _ (job : Job) (points : List ℕ) where
   pub plan-modulus : noModulus (job .modulus) ≡ true → first (planTests job points) ≡ 1
@@ -68,7 +68,7 @@ pub accepted : (job : Job) (points : List ℕ) (m : Modulus) (layout : Layout) (
     ≡ planned job points
 unfolding planned planOf modulusOf blockRows blockInner blockColumns
 accepted job points m layout g needed is l same k e =
-    ap Accepted (λ i. record { modulus = ap known (sym is) i; layout = l i; parameters = same i; rows = blockRows job; inner = blockInner job; columns = blockColumns job; needed = k i })
+    ap Accepted (λ i. record { modulus = ap modulusIn (sym is) i; layout = l i; parameters = same i; rows = blockRows job; inner = blockInner job; columns = blockColumns job; needed = k i })
     ∙ sym (outcome-done (Accepted (planOf job)) Refused (first (planTests job points)) e)
 
 pub plan-told : (job : Job) (points : List ℕ) → told (planned job points) ≡ outcome (first (planTests job points)) (done (planValues job)) Chain·refused

@@ -14,13 +14,13 @@ use Rattle.refusal.specs.Chain.{Test, first, outcome}
 use Rattle.refusal.proofs.Chains.{first-append, first-append-hit, numbered}
 use Rattle.field.specs.declared.Named.{Named}
 use Rattle.field.specs.declared.Named.the-variants.{Is, Unknown}
-use Rattle.field.specs.Modulus.{modulus, noModulus, named}
+use Rattle.field.specs.Modulus.{modulus, noModulus, named, modulusIn}
 use Rattle.field.specs.Modulus.{prime as Modulus·prime}
 use Rattle.field.proofs.Moduli.{none-named}
-use Rattle.field.proofs.Moduli.{known as Moduli·known}
+use Rattle.field.proofs.Moduli.{modulusIn as Moduli·modulusIn}
 use Rattle.plan.specs.declared.Job.{Job}
 use Rattle.plan.specs.declared.Planned.the-variants.{Accepted, Refused}
-use Rattle.plan.specs.Planning.{prime, known, modulusOf, planOf, rangeTests, fitTests, pointTests, planTests, planned}
+use Rattle.plan.specs.Planning.{prime, modulusOf, planOf, rangeTests, fitTests, pointTests, planTests, planned}
 use Rattle.plan.proofs.Points.{points-numbered}
 
 pub plan-numbered : (job : Job) (points : List ℕ) → T (numbered (planTests job points))
@@ -46,6 +46,6 @@ pub own-prime : (job : Job) → noModulus (job .modulus) ≡ false → Modulus·
 unfolding modulusOf prime
 own-prime job e = go (named (job .modulus)) refl
   where
-    go : (x : Named) → named (job .modulus) ≡ x → Modulus·prime (known x) ≡ modulus (job .modulus)
-    go (Is m) is = sym (Moduli·known (job .modulus) is refl .is)
+    go : (x : Named) → named (job .modulus) ≡ x → Modulus·prime (modulusIn x) ≡ modulus (job .modulus)
+    go (Is m) is = sym (Moduli·modulusIn (job .modulus) is refl .is)
     go Unknown is = absurd (true≢false (sym (none-named (job .modulus) is) ∙ e))

@@ -23,10 +23,7 @@ use lib.ListN.{length, getD, take}
 use Rattle.refusal.specs.Chain.{Test, first, outcome, Told, done, refused, outside, differs}
 use Rattle.refusal.specs.Limits.{anyOutside, sizesOutside, overBlock}
 use Rattle.field.specs.declared.Modulus.{Modulus}
-use Rattle.field.specs.declared.Modulus.the-variants.{Q13}
-use Rattle.field.specs.declared.Named.{Named}
-use Rattle.field.specs.declared.Named.the-variants.{Is, Unknown}
-use Rattle.field.specs.Modulus.{modulus, named, noModulus}
+use Rattle.field.specs.Modulus.{modulus, named, noModulus, modulusIn}
 use Rattle.layout.specs.declared.Parameters.{Parameters}
 use Rattle.layout.specs.declared.Layout.{Layout}
 use Rattle.layout.specs.Exponents.{exponents, number, choice}
@@ -41,13 +38,8 @@ parameters job = record { m = job .m; p = job .p; n = job .n; xa = job .xa; xb =
 unfoldable pub prime : Job → ℕ
 prime job = modulus (job .modulus)
 
--- a job whose modulus number is unknown is refused, so what stands here for it does not matter
-abbrev pub known : Named → Modulus
-known (Is m) = m
-known Unknown = Q13
-
 unfoldable pub modulusOf : Job → Modulus
-modulusOf job = known (named (job .modulus))
+modulusOf job = modulusIn (named (job .modulus))
 
 unfoldable pub blockRows : Job → ℕ
 blockRows job = job .t / job .m
