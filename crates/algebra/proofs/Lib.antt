@@ -13,4 +13,4 @@ pub mod Polynomials
 pub mod Division
 pub mod Interpolation
 pub mod Sets
-pub mod Places
+pub mod Points

@@ -8,7 +8,7 @@
 --   below-test                a list of small numbers passes it
 --   below-anywhere            past the end of a list stands 0
 --   below-append, below-tab   small numbers after small numbers, and a tabulated list of them
---   rest-is                   a list from some place on, up to its end
+--   rest-is                   a list from some index on, up to its end
 --   below-drop, below-part    a part of a list
 --   below-none, below-step, below-more, below-all  the test, element by element
 --   below-stop                one element that is not below

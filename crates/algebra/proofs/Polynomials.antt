@@ -97,7 +97,7 @@ length-quotient r (c ∷ cs) = ap suc (length-quotient r cs)
 abbrev pub Zeros : ℕ → List ℕ → Type 0
 Zeros q cs = (e : ℕ) → ⟨ q ⟩ getD cs e 0 ≈ 0
 
--- no two places of xs are congruent
+-- no two elements of xs are congruent
 abbrev pub Apart : ℕ → List ℕ → Type 0
 Apart q xs = (i j : ℕ) → i < length xs → j < length xs → ⟨ q ⟩ getD xs i 0 ≈ getD xs j 0 → i ≡ j
 

@@ -77,7 +77,7 @@ module _ (g : ℕ → Bool) where
       (λ n xs e h k l t.
       ⊎-elim (λ (s : k ≡ n). absurd (true≢false (sym t ∙ ap g s ∙ e))) (λ (b : k < n). h k b t) (eq-or-lt-of-le (le-of-suc-le-suc l)))
 
-  -- members are below n, and they rise: of two places the later holds the larger number
+  -- members are below n, and they rise: of two indices the later holds the larger number
   rise : (n : ℕ) → AllBelow n (members g n) × ((i j : ℕ) → i < j → j < length (members g n) → getD (members g n) i 0 < getD (members g n) j 0)
   rise =
       each (λ n xs. AllBelow n xs × ((i j : ℕ) → i < j → j < length xs → getD xs i 0 < getD xs j 0))

@@ -6,7 +6,7 @@
 --   entry columns xs i j  == the element at row i and column j of a matrix with that many columns
 --   AllBelow q xs == each element of xs is below q
 --   allBelow q xs == the same as a test
---   Distinct xs   == no two places of xs hold the same number
+--   Distinct xs   == no two indices of xs have the same number
 use mathlib.Core.Path.{_≡_}
 use mathlib.Core.Bool.{Bool, true, _&&_}
 use mathlib.Core.List.{List, [], _∷_, _++_}

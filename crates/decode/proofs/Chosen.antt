@@ -12,7 +12,7 @@ use lib.Seq.{length-take-le, getD-take}
 use Rattle.algebra.specs.Lists.{AllBelow, Distinct}
 use Rattle.algebra.specs.Sets.{members, size}
 use Rattle.algebra.proofs.Sets.{members-in, members-below, members-distinct}
-use Rattle.algebra.proofs.Places.{points-each, points-apart}
+use Rattle.algebra.proofs.Points.{points-each, points-apart}
 use Rattle.plan.specs.declared.Job.{Job}
 use Rattle.plan.specs.Planning.{prime, neededOf}
 use Rattle.plan.proofs.Facts.{Facts}

@@ -25,7 +25,7 @@ use Rattle.algebra.specs.Polynomials.{coefficient}
 use Rattle.algebra.proofs.Tests.{or-left, or-right, equal, alike}
 use Rattle.algebra.proofs.Lists.{below-anywhere}
 use Rattle.algebra.proofs.Grids.{grid-cong}
-use Rattle.algebra.proofs.Places.{pointsAt}
+use Rattle.algebra.proofs.Points.{pointsAt}
 use Rattle.refusal.specs.Chain.{first, differs}
 use Rattle.refusal.specs.Limits.{mostElements}
 use Rattle.refusal.proofs.Chains.{first-clear, first-append-clear, unless-done, unless-refused, inside}

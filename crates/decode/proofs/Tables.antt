@@ -21,7 +21,7 @@ use Rattle.algebra.proofs.Grids.{grid-cong, length-grid, getD-grid, below-grid}
 use Rattle.algebra.proofs.Stacks.{stack-cong, stack-grid}
 use Rattle.algebra.proofs.Modular.{≈-trans, ≈-of-eq, ≈-mod, ≈-mul}
 use Rattle.algebra.proofs.Sums.{sum-≈}
-use Rattle.algebra.proofs.Places.{pointsAt}
+use Rattle.algebra.proofs.Points.{pointsAt}
 use Rattle.field.specs.Modulus.{prime}
 use Rattle.plan.specs.declared.Plan.{Plan}
 use Rattle.decode_basis.proofs.Weights.{basis-by-division}

@@ -14,7 +14,7 @@ use Rattle.algebra.specs.Lists.{AllBelow}
 use Rattle.algebra.specs.Sets.{members, size}
 use Rattle.algebra.proofs.Lists.{getD-map}
 use Rattle.algebra.proofs.Sets.{members-has, members-below, members-distinct}
-use Rattle.algebra.proofs.Places.{pointsAt, points-each, points-apart}
+use Rattle.algebra.proofs.Points.{pointsAt, points-each, points-apart}
 use Rattle.layout.specs.Exponents.{Exponents, exponents, term}
 use Rattle.plan.specs.declared.Job.{Job}
 use Rattle.plan.specs.Planning.{prime, parameters, layoutOf}

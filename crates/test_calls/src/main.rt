@@ -207,7 +207,7 @@ fn run_call(
 }
 
 // Answers a case with an output of elements; false where there is no such call or its output is too long.
-fn run_call(
+fn print_call(
     head: [u32; HEAD_WORDS],
     points: &[u32],
     xs: &[u32],
@@ -227,7 +227,7 @@ fn run_call(
 }
 
 // Answers a case of a message to write; false where its output is too long.
-fn run_write(head: [u32; HEAD_WORDS], xs: &[u32]) -> bool {
+fn print_write(head: [u32; HEAD_WORDS], xs: &[u32]) -> bool {
     let room = head[17] as usize;
     if MOST_BYTES < room {
         return false;
@@ -257,9 +257,9 @@ fn run_message(head: [u32; HEAD_WORDS], points: &[u32], xs: &[u32], ys: &[u32]) 
     }
     let call = head[0];
     if call == 4 {
-        return run_write(head, xs);
+        return print_write(head, xs);
     }
-    run_call(head, points, xs, ys, &message[..n])
+    print_call(head, points, xs, ys, &message[..n])
 }
 
 // Answers a case with these lists; false where it is over the limits, or the input ended in it.

@@ -6,7 +6,7 @@ use native.Mathlib.Omega.{arith}
 use lib.ListN.{length, getD, drop, length-set}
 use Rattle.algebra.specs.Lists.{tab}
 use Rattle.algebra.proofs.Fronts.{front-none, front-more, front-all}
-use Rattle.algebra.proofs.Places.{points-tab}
+use Rattle.algebra.proofs.Points.{points-tab}
 use Rattle.decode.proofs.points_at.Statement.{statement}
 use Rattle.decode.proofs.points_at.Tie as tie
 

@@ -1,10 +1,10 @@
--- `test_calls::run_write` meets its contract.
+-- `test_calls::print_write` meets its contract.
 use Prim.Native.Nat.{ℕ, _≤_}
 use mathlib.Core.Path.{sym, subst}
 use lib.Seq.{length-take-le, length-front}
 use borrow.Author.Needs.{needs}
-use Rattle.test_calls.proofs.run_write.Statement.{statement}
-use Rattle.test_calls.proofs.run_write.Tie as tie
+use Rattle.test_calls.proofs.print_write.Statement.{statement}
+use Rattle.test_calls.proofs.print_write.Tie as tie
 
 array-read-room : tie.Need-array-read-room
 array-read-room c = search needs
@@ -60,8 +60,8 @@ put-message-requires c κs = subst (λ (k : ℕ). k ≤ 20000) (slice-aggregate-
 returns-2 : tie.Need-returns-2
 returns-2 c = search needs
 
-pub run-write-spec : {M : Type 1} → statement M
-run-write-spec =
+pub print-write-spec : {M : Type 1} → statement M
+print-write-spec =
     tie.close
     (tie.spec
     array-read-room

@@ -1,9 +1,9 @@
--- `test_calls::run_call` meets its contract.
+-- `test_calls::print_call` meets its contract.
 use mathlib.Core.Path.{sym}
 use lib.Seq.{length-take-le, length-front}
 use borrow.Author.Needs.{needs}
-use Rattle.test_calls.proofs.run_call.Statement.{statement}
-use Rattle.test_calls.proofs.run_call.Tie as tie
+use Rattle.test_calls.proofs.print_call.Statement.{statement}
+use Rattle.test_calls.proofs.print_call.Tie as tie
 
 array-read-room : tie.Need-array-read-room
 array-read-room c = search needs
@@ -41,8 +41,8 @@ put-output-requires c κs = search needs
 returns-3 : tie.Need-returns-3
 returns-3 c = search needs
 
-pub run-call-spec : {M : Type 1} → statement M
-run-call-spec =
+pub print-call-spec : {M : Type 1} → statement M
+print-call-spec =
     tie.close
     (tie.spec
     array-read-room
