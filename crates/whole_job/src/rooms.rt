@@ -2,6 +2,7 @@
 ghost use mathlib.Core.Path.{_≡_};
 ghost use Prim.Native.Nat.{_≤_};
 ghost use lib.ListN.{length};
+ghost use Rattle.refusal.specs.Limits.{mostElements};
 use lister::LISTING_ROOM;
 use refusal::MOST_ELEMENTS;
 use words::least;
@@ -49,7 +50,7 @@ pub(crate) fn pair_room() -> [u32; PAIR_ROOM]
 
 // Room for a block.
 pub(crate) fn block_room() -> [u32; MOST_ELEMENTS]
-    ensures { λ r. ⌜ 4096 ≡ length r ⌝ }
+    ensures { λ r. ⌜ mostElements ≡ length r ⌝ }
 {
     [0; MOST_ELEMENTS]
 }
@@ -75,7 +76,7 @@ pub(crate) fn area(rows: u32, columns: u32) -> usize {
 
 // How many elements a block of these sizes has, at most 4096.
 fn block_size(rows: u32, columns: u32) -> usize
-    ensures { λ r. ⌜ r ≤ 4096 ⌝ }
+    ensures { λ r. ⌜ r ≤ mostElements ⌝ }
 {
     least(area(rows, columns), MOST_ELEMENTS)
 }
@@ -89,21 +90,21 @@ pub(crate) struct Sizes {
 
 // How many elements a block of A has.
 pub(crate) fn size_a(s: Sizes) -> usize
-    ensures { λ r. ⌜ r ≤ 4096 ⌝ }
+    ensures { λ r. ⌜ r ≤ mostElements ⌝ }
 {
     block_size(s.rows, s.inner)
 }
 
 // How many elements a block of B has.
 pub(crate) fn size_b(s: Sizes) -> usize
-    ensures { λ r. ⌜ r ≤ 4096 ⌝ }
+    ensures { λ r. ⌜ r ≤ mostElements ⌝ }
 {
     block_size(s.inner, s.columns)
 }
 
 // How many elements an answer has.
 pub(crate) fn answer_size(s: Sizes) -> usize
-    ensures { λ r. ⌜ r ≤ 4096 ⌝ }
+    ensures { λ r. ⌜ r ≤ mostElements ⌝ }
 {
     block_size(s.rows, s.columns)
 }

@@ -1,5 +1,6 @@
 // The shares of all hosts.
 ghost use Prim.Native.Nat.{_≤_};
+ghost use Rattle.refusal.specs.Limits.{mostElements};
 use crate::planning::Whole;
 use crate::rooms::ELEMENT_ROOM;
 use crate::rooms::blocks;
@@ -21,7 +22,7 @@ fn share_all(
     size: usize,
     out: &mut [u32],
 ) -> u32
-    requires { ⌜ size ≤ 4096 ⌝ }
+    requires { ⌜ size ≤ mostElements ⌝ }
 {
     let mut index = 0;
     while index < job.hosts {
