@@ -17,7 +17,7 @@ use Rattle.field.specs.declared.Named.the-variants.{Is, Unknown}
 use Rattle.field.specs.Modulus.{modulus, noModulus, named, modulusIn}
 use Rattle.field.specs.Modulus.{prime as Modulus·prime}
 use Rattle.field.proofs.Moduli.{none-named}
-use Rattle.field.proofs.Moduli.{modulusIn as Moduli·modulusIn}
+use Rattle.field.proofs.Moduli.{known as Moduli·known}
 use Rattle.plan.specs.declared.Job.{Job}
 use Rattle.plan.specs.declared.Planned.the-variants.{Accepted, Refused}
 use Rattle.plan.specs.Planning.{prime, modulusOf, planOf, rangeTests, fitTests, pointTests, planTests, planned}
@@ -47,5 +47,5 @@ unfolding modulusOf prime
 own-prime job e = go (named (job .modulus)) refl
   where
     go : (x : Named) → named (job .modulus) ≡ x → Modulus·prime (modulusIn x) ≡ modulus (job .modulus)
-    go (Is m) is = sym (Moduli·modulusIn (job .modulus) is refl .is)
+    go (Is m) is = sym (Moduli·known (job .modulus) is refl .is)
     go Unknown is = absurd (true≢false (sym (none-named (job .modulus) is) ∙ e))
