@@ -1,12 +1,12 @@
 #!/usr/bin/env python3
-"""What must be believed: the definitions from which the demands' records are made.
+"""What must be believed: the statements of the demands, and the definitions from which they are made.
 
     docs/believe.py            writes docs/BELIEVE.md
     docs/believe.py --check    ends with 1 where docs/BELIEVE.md is not what it would write, or has too many lines
 
 It follows every name that a definition uses, from the roots on, through the `use` lines of its file: to definitions of
-crates/*/specs, and to the structs and enums of the code that these speak of. A definition's lines are counted from its
-signature to its end, without the comment above it.
+crates/*/specs, and to the structs and enums of the code that these speak of. A statement is a record that relates values; all
+else is a definition. Lines are counted from the signature to the end, without comments.
 """
 import re
 import sys
@@ -16,6 +16,7 @@ TOP = Path(__file__).resolve().parent.parent
 PAGE = TOP / "docs" / "BELIEVE.md"
 ROOTS = [("promise", f"Demand{n}", f"Demand{n}") for n in (1, 2, 3)]
 MOST_LINES = 600
+RELATION = re.compile(r"[≡≤<↔≈]")
 
 OPENING = re.compile(r"^(\s*)(?:unfoldable |abbrev )?pub (?:(?:record|data) )?([^\s:]+)(?=[\s:])")
 NESTED = re.compile(r"^\s+(?:unfoldable|abbrev) pub ")
@@ -135,35 +136,62 @@ def reading_order(paths, files):
     return order
 
 
-def page():
-    """The page, and how many lines the definitions of specs/ have."""
-    found, files = believed()
+def kind_of(path, lines):
+    """What an item is: a statement, a definition, or a type of the code."""
+    if path.suffix == ".rt":
+        return "type"
+    return "statement" if lines[0].startswith("pub record") and RELATION.search("\n".join(lines)) else "definition"
+
+
+def table_of(items, files):
+    """The rows of some items, file by file, and how many there are, in how many lines."""
     by_file = {}
-    for path, name, lines in found:
-        by_file.setdefault(path, []).append((path.read_text().index("\n".join(lines)), name, len(lines)))
-    rows, count, total, held = [], 0, 0, [0, 0]
+    for path, name, lines in items:
+        size = sum(not line.strip().startswith(("--", "//")) for line in lines)
+        by_file.setdefault(path, []).append((path.read_text().index("\n".join(lines)), name, size))
+    rows = []
     for path in reading_order(set(by_file), files):
         parts = sorted(by_file[path])
-        size = sum(n for _, _, n in parts)
-        if path.suffix == ".antt":
-            count, total = count + len(parts), total + size
-        else:
-            held = [held[0] + len(parts), held[1] + size]
-        rows.append(f"| `{path.relative_to(TOP)}` | {size} | " + ", ".join(f"`{name}`" for _, name, _ in parts) + " |")
-    head = [
+        names = ", ".join(f"`{name}`" for _, name, _ in parts)
+        rows.append(f"| `{path.relative_to(TOP)}` | {sum(size for _, _, size in parts)} | {names} |")
+    sizes = [size for parts in by_file.values() for _, _, size in parts]
+    return rows, len(sizes), sum(sizes)
+
+
+def page():
+    """The page, and how many lines the definitions have."""
+    found, files = believed()
+    kinds = {"statement": [], "definition": [], "type": []}
+    for item in found:
+        kinds[kind_of(item[0], item[2])].append(item)
+    statements, definitions, types = (table_of(kinds[kind], files) for kind in ("statement", "definition", "type"))
+    head = ["| file | lines | names |", "|---|---|---|"]
+    text = [
         "# What must be believed",
         "",
-        "The three demands are the records `Demand1`, `Demand2` and `Demand3` (`crates/promise/specs`). A reader who believes that they say",
-        "what the minutes say has to read what they are made of: the definitions below, each file after those that it uses. All else",
-        "in `specs/`, in files named `Contracts`, is how the code does it, and everything in `proofs/` is checked by the prover.",
+        "The three demands are the records `Demand1`, `Demand2` and `Demand3` (`crates/promise/specs`). Whoever believes that they say what the minutes",
+        "say has read the statements and the definitions below, each file after those that it uses, and nothing else. All else in `specs/` is",
+        "how the code does it, in files named `Contracts`, or what is promised beside the demands. Everything in `proofs/` is checked by the prover.",
         "",
-        f"{count} definitions in {total} lines, and {held[0]} structs and enums of the code in {held[1]} lines. Comments above a definition are not counted.",
-        "`docs/believe.py` writes this page from the files, and the gate checks that it is true.",
+        f"{statements[1]} statements in {statements[2]} lines, made of {definitions[1]} definitions in {definitions[2]} lines and {types[1]} structs and enums of the code in {types[2]} lines.",
+        "Comments are not counted. `docs/believe.py` writes this page from the files, and the gate checks that it is true.",
         "",
-        "| file | lines | definitions |",
-        "|---|---|---|",
+        "## The definitions",
+        "",
+        *head,
+        *definitions[0],
+        "",
+        "## The structs and enums of the code that they speak of",
+        "",
+        *head,
+        *types[0],
+        "",
+        "## The statements",
+        "",
+        *head,
+        *statements[0],
     ]
-    return "\n".join(head + rows) + "\n", total
+    return "\n".join(text) + "\n", definitions[2]
 
 
 def main():
@@ -172,7 +200,7 @@ def main():
         if PAGE.read_text() != text:
             sys.exit("believe: docs/BELIEVE.md is not what docs/believe.py writes")
         if MOST_LINES < total:
-            sys.exit(f"believe: {total} lines must be believed, and at most {MOST_LINES} should be")
+            sys.exit(f"believe: the definitions have {total} lines, and should have at most {MOST_LINES}")
         print(text.split("\n")[6])
     elif sys.argv[1:]:
         sys.exit(__doc__)
