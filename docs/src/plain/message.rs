@@ -110,8 +110,8 @@ fn bytes_below<const Q: u32>(bytes: &[u8]) -> bool {
 
 /// Reads the elements of a payload.
 pub fn read_elements(payload: &[u8], out: &mut [u32]) {
-    for (place, element) in out.iter_mut().zip(big_endian(payload)) {
-        *place = element;
+    for (slot, element) in out.iter_mut().zip(big_endian(payload)) {
+        *slot = element;
     }
 }
 
