@@ -54,7 +54,8 @@ pub record Decoded (job : Job) (points : List ℕ) (heard : ℕ) (store table : 
       → let h = getD (chosen job heard) c 0 in ⟨ prime job ⟩ ev (polynomial i v) (getD points h 0) ≈ answerEntry job store h i v
   -- and it is the only one
   pub only : (i v : ℕ) (cs : List ℕ) → length cs ≤ neededOf job
-      → ((c : ℕ) → c < neededOf job → let h = getD (chosen job heard) c 0 in ⟨ prime job ⟩ answerEntry job store h i v ≈ ev cs (getD points h 0))
+      → ((c : ℕ) → c < neededOf job → let h = getD (chosen job heard) c 0 in
+      ⟨ prime job ⟩ answerEntry job store h i v ≈ ev cs (getD points h 0))
       → (e : ℕ) → e < neededOf job → getD (polynomial i v) e 0 ≡ getD cs e 0 % prime job
   -- "Table block C(k,j) is the coefficient at" its place
   pub whole : length table ≡ tableLength job
@@ -67,7 +68,8 @@ pub record Demand2 : Type 0 where
   pub share : (m : Matrix) (job : Job) (points : List ℕ) (host : ℕ) (xs ms out : List ℕ)
       → first (shareTests m job points host xs ms (length out)) ≡ 0
       → let s = side m job in
-      Modulo (prime job) (s .«block_rows») (s .«block_columns») (shareEntry (exponents (layoutOf job) (parameters job)) s (point points host) xs ms)
+      Modulo (prime job) (s .«block_rows») (s .«block_columns»)
+      (shareEntry (exponents (layoutOf job) (parameters job)) s (point points host) xs ms)
       (shareAfter m job points host xs ms out)
   -- "K is the number of answers needed."
   pub needed : (job : Job) (points : List ℕ) → first (planTests job points) ≡ 0 → Needed job

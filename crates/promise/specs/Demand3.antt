@@ -246,7 +246,8 @@ pub record Made (x : Task) (i : ℕ) (ma mb : List ℕ) : Type 0 where
   -- the product that a partner links into a C program makes the bytes of the true product's elements from those of the A
   -- message's and the B message's
   pub host : (out : List ℕ) → length out ≡ 4 * elementCount (answerHeader x i) → let j = x .job in
-      hostAfter (j .modulus) (blockRows j) (blockInner j) (blockColumns j) (payload (shareMessage A x i ma)) (payload (shareMessage B x i mb)) out
+      hostAfter (j .modulus) (blockRows j) (blockInner j) (blockColumns j)
+      (payload (shareMessage A x i ma)) (payload (shareMessage B x i mb)) out
       ≡ payload (trueProduct x i ma mb)
 
 pub record Demand3 : Type 0 where
