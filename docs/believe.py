@@ -169,8 +169,8 @@ def page():
     text = [
         "# What must be believed",
         "",
-        "The three demands are the records `Demand1`, `Demand2` and `Demand3` (`crates/promise/specs`). Whoever believes that they say what the minutes",
-        "say has read the statements and the definitions below, each file after those that it uses, and nothing else. All else in `specs/` is",
+        "The three demands are the records `Demand1`, `Demand2` and `Demand3` (`crates/promise/specs`). Who wants to see that they say what the minutes",
+        "say reads the definitions and the statements below, each file after those that it uses, and needs nothing else. All else in `specs/` is",
         "how the code does it, in files named `Contracts`, or what is promised beside the demands. Everything in `proofs/` is checked by the prover.",
         "",
         f"{statements[1]} statements in {statements[2]} lines, made of {definitions[1]} definitions in {definitions[2]} lines and {types[1]} structs and enums of the code in {types[2]} lines.",

@@ -34,7 +34,7 @@ use Rattle.decode.specs.Decoding.{tableTests, decodeTests, tableAfter}
 use Rattle.field.proofs.Moduli.{told-named}
 use Rattle.field_signed.specs.Signed.{signedTests, elementTests}
 use Rattle.field_signed.proofs.Outcomes.{signed-told, element-told}
-use Rattle.promise.specs.Demand1.{test, Judged, Call, Tells, Demand1}
+use Rattle.promise.specs.Demand1.{test, Judged, Obeys, Tells, Demand1}
 use Rattle.promise.specs.OtherCalls.{OtherCalls}
 
 pub judged : (tests : List Test) → T (numbered tests) → Judged tests (first tests)
@@ -62,7 +62,7 @@ judged ((false, n) ∷ tests) t = later (judged tests (and-right (not (eqb n 0))
         each-before k h (suc j) l = h j (le-of-suc-le-suc l)
 
 -- a call that returns the number of its tests
-called : {n : ℕ} (tests : List Test) (made was : List ℕ) → T (numbered tests) → n ≡ first tests → Call tests n (unlessRefused tests made was) made was
+called : {n : ℕ} (tests : List Test) (made was : List ℕ) → T (numbered tests) → n ≡ first tests → Obeys tests n (unlessRefused tests made was) made was
 called tests made was ok e = record {
   judged = subst (Judged tests) (sym e) (judged tests ok);
   carried-out = λ z. unless-done tests made was (sym e ∙ z);

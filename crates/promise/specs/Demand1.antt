@@ -5,7 +5,7 @@
 --
 --   test tests i              == the test at i
 --   Judged tests n            == n is 0 exactly where no test holds; otherwise it is the number of the first that does
---   Call tests n after made was == a call with these tests returns n, judged by them; where n is 0 a lent buffer holds `made` after
+--   Obeys tests n after made was == a call with these tests returns n, judged by them; where n is 0 a lent buffer holds `made` after
 --                                it, and otherwise what it held before
 --   Tells tests t values      == what a call returns, on paper: its number is judged by the tests, and where it is 0 the values are
 --                                these; a refusal has none
@@ -42,7 +42,7 @@ pub record Judged (tests : List Test) (n : ℕ) : Type 0 where
   pub refused : (n ≡ 0 → ⊥)
       → (i : ℕ) × (i < length tests) × (test tests i .0 ≡ true) × (test tests i .1 ≡ n) × ((j : ℕ) → j < i → test tests j .0 ≡ false)
 
-pub record Call (tests : List Test) (n : ℕ) (after made was : List ℕ) : Type 0 where
+pub record Obeys (tests : List Test) (n : ℕ) (after made was : List ℕ) : Type 0 where
   pub judged : Judged tests n
   pub carried-out : n ≡ 0 → after ≡ made
   pub refused : (n ≡ 0 → ⊥) → after ≡ was
@@ -57,25 +57,25 @@ pub record Demand1 : Type 0 where
   pub plan : (job : Job) (points : List ℕ) → Tells (planTests job points) (Planning·told (planned job points)) (planValues job)
   pub share : (m : Matrix) (job : Job) (points : List ℕ) (host : ℕ) (xs ms out : List ℕ)
       → let tests = shareTests m job points host xs ms (length out) in
-      Call tests (first tests) (shareAfter m job points host xs ms out) (hostShare m job points host xs ms) out
+      Obeys tests (first tests) (shareAfter m job points host xs ms out) (hostShare m job points host xs ms) out
   pub product : (n rows inner columns : ℕ) (a b out : List ℕ) → let tests = productTests n rows inner columns a b (length out) in
-      Call tests (first tests) (productAfter n rows inner columns a b out) (productOf (modulus n) rows inner columns a b) out
+      Obeys tests (first tests) (productAfter n rows inner columns a b out) (productOf (modulus n) rows inner columns a b) out
   -- the product that a partner links into a C program, on bytes
   pub host : (n rows inner columns : ℕ) (a b out : List ℕ) → let tests = hostTests n rows inner columns a b (length out) in
-      Call tests (first tests) (hostAfter n rows inner columns a b out) (hostProduct n rows inner columns a b) out
+      Obeys tests (first tests) (hostAfter n rows inner columns a b out) (hostProduct n rows inner columns a b) out
   pub write : (h : Header) (xs out : List ℕ) → let tests = writeTests h xs (length out) in
-      Call tests (first tests) (written h xs out) (messageOf h xs) out
+      Obeys tests (first tests) (written h xs out) (messageOf h xs) out
   -- the fields are told; past rows times columns the output is untouched
   pub read : (message out : List ℕ) → let tests = readTests message (length out) in let t = Format·told (readAs message (length out)) in
       Tells tests t (fields (headerOf message))
-      × Call tests (t .number) (readInto message out) (elements message ++ drop (elementCount (headerOf message)) out) out
+      × Obeys tests (t .number) (readInto message out) (elements message ++ drop (elementCount (headerOf message)) out) out
   -- an arrival writes its own block and sets its own bit
   pub arrival : (job : Job) (points : List ℕ) (heard : ℕ) (store message : List ℕ)
       → let r = arrived job points heard store message in let index = hostIndex (headerOf message) in
-      Call (arrivalTests job points heard (length store) message) (numberOf r) (storeAfter job points heard store message)
+      Obeys (arrivalTests job points heard (length store) message) (numberOf r) (storeAfter job points heard store message)
       (withBlock (answerLength job) store index (elements message)) store
       × (numberOf r ≡ 0 → heardAfter heard r ≡ withHost heard index)
       × ((numberOf r ≡ 0 → ⊥) → heardAfter heard r ≡ heard)
   pub decode : (job : Job) (points : List ℕ) (heard : ℕ) (store table : List ℕ)
       → let tests = decodeTests job points heard store (length table) in
-      Call tests (first tests) (tableAfter job points heard store table) (tableOf job points heard store) table
+      Obeys tests (first tests) (tableAfter job points heard store table) (tableOf job points heard store) table
