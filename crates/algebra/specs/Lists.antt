@@ -7,11 +7,12 @@
 --   AllBelow q xs == each element of xs is below q
 --   allBelow q xs == the same as a test
 --   Distinct xs   == no two indices of xs have the same number
+--   same xs ys    == xs and ys are equal, as a test
 use mathlib.Core.Path.{_≡_}
-use mathlib.Core.Bool.{Bool, true, _&&_}
+use mathlib.Core.Bool.{Bool, true, false, _&&_}
 use mathlib.Core.List.{List, [], _∷_, _++_}
 use Prim.Native.Nat.{ℕ, zero, suc, _+_, _*_, _<_}
-use lib.Dec.{ltb}
+use lib.Dec.{eqb, ltb}
 use lib.ListN.{length, getD}
 
 unfoldable pub tab {ℓ} : {A : Type ℓ} → (ℕ → A) → ℕ → List A
@@ -38,3 +39,9 @@ allBelow q (x ∷ xs) = ltb x q && allBelow q xs
 
 abbrev pub Distinct : List ℕ → Type 0
 Distinct xs = (i j : ℕ) → i < length xs → j < length xs → getD xs i 0 ≡ getD xs j 0 → i ≡ j
+
+unfoldable pub same : List ℕ → List ℕ → Bool
+same [] [] = true
+same [] (y ∷ ys) = false
+same (x ∷ xs) [] = false
+same (x ∷ xs) (y ∷ ys) = eqb x y && same xs ys

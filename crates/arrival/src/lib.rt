@@ -1,5 +1,6 @@
-// Arrivals: a host's answer is taken into the store, and its host counts as heard; or it is refused.
+// Arrivals: a host's answer is taken into the store, and its host counts as heard; or it is in already; or it is refused.
 ghost use mathlib.Core.Path.{_≡_};
+ghost use mathlib.Core.Bool.{cond};
 ghost use Prim.Native.Nat.{_+_, _*_, _≤_};
 ghost use lib.ListN.{length};
 ghost use Rattle.refusal.specs.Chain.{first};
@@ -11,12 +12,15 @@ ghost use Rattle.arrival.specs.Arriving.{
   answerLength,
   storeLength,
   withBlock,
+  hostIndex,
   foreign,
+  repeated,
   stateTests,
   answerTests,
   arrived,
   storeAfter,
 };
+ghost use Rattle.arrival.specs.declared.Arrived.the-variants.{AlreadyIn, Refused};
 ghost use Rattle.arrival.specs.Contracts.{received, storeReceived};
 use message::Parsed;
 use message_header::HEADER_BYTES;
@@ -24,9 +28,10 @@ use message_header::Header;
 use plan::Job;
 use plan::Planned;
 
-// What an arrival returns: the hosts heard after it, or the number of the refusal.
+// What an arrival returns: the hosts heard after it; that the message is in already; or the number of the refusal.
 pub enum Arrived {
     Taken(u64),
+    AlreadyIn,
     Refused(u32),
 }
 
@@ -59,23 +64,33 @@ fn state_refusal(job: Job, size: usize, heard: u64, room: usize) -> u32
     0
 }
 
-// Tests 22, 12 and 23: a message's fields beside the job and the hosts heard.
-fn answer_refusal(job: Job, rows: u32, columns: u32, heard: u64, h: Header) -> u32
-    requires { ⌜ rows ≡ blockRows job × columns ≡ blockColumns job × 1 ≤ h .host ⌝ }
-    ensures { λ r. ⌜ r ≡ first (answerTests job heard h) ⌝ }
+// Tests 22 and 12: a message's fields beside the job.
+fn answer_refusal(job: Job, rows: u32, columns: u32, h: Header) -> u32
+    requires { ⌜ rows ≡ blockRows job × columns ≡ blockColumns job ⌝ }
+    ensures { λ r. ⌜ r ≡ first (answerTests job h) ⌝ }
 {
-    let foreign = foreign_test(job, rows, columns, h);
-    let again = arrival_heard::is_heard(heard, h.host - 1);
-    if foreign {
+    if foreign_test(job, rows, columns, h) {
         return refusal::FOREIGN;
     }
     if job.hosts < h.host {
         return refusal::HOST;
     }
-    if again {
-        return refusal::HEARD;
-    }
     0
+}
+
+// What a message of a host heard already returns: it is in already, where it is what is stored for that host; or 23.
+fn heard_again(index: usize, size: usize, message: &[u8], store: &[u32]) -> Arrived
+    requires { ⌜ index ≡ hostIndex (headerOf (now message))
+        × length (now message) ≡ 16 + 4 * size
+        × index * size + size ≤ length (now store) ⌝ }
+    ensures { λ r. ⌜ r ≡ cond (repeated size (now (store .entry)) (now (message .entry))) AlreadyIn (Refused 23) ⌝ }
+{
+    let from = index * size;
+    let stored = &store[from..from + size];
+    if message_bytes::same_bytes(&message[HEADER_BYTES..], stored) {
+        return Arrived::AlreadyIn;
+    }
+    Arrived::Refused(refusal::HEARD)
 }
 
 // Writes the elements of a message over the block of an index.
@@ -90,8 +105,8 @@ fn put_block(index: usize, size: usize, message: &[u8], store: &mut [u32])
     message_bytes::read_elements(&message[HEADER_BYTES..], &mut store[start..end]);
 }
 
-// Takes a message when the plan, the hosts heard and the store have passed: its block is written and its host counts as heard,
-// or it is refused. An answer is rows by columns.
+// Takes a message when the plan, the hosts heard and the store have passed: its block is written and its host counts as heard;
+// or it is in already; or it is refused. An answer is rows by columns.
 fn take_message(
     job: Job,
     rows: u32,
@@ -102,19 +117,22 @@ fn take_message(
 ) -> Arrived
     requires { ⌜ rows ≡ blockRows job × columns ≡ blockColumns job × rows * columns ≤ mostElements × job .hosts ≤ 64
         × length (now store) ≡ storeLength job ⌝ }
-    ensures outcome { λ r. ⌜ r ≡ received job heard (now (message .entry)) ⌝ }
+    ensures outcome { λ r. ⌜ r ≡ received job heard (now (store .entry)) (now (message .entry)) ⌝ }
     ensures kept { λ _. ⌜ now (store .exit) ≡ storeReceived job heard (now (store .entry)) (now (message .entry)) ⌝ }
 {
     let parsed = message::examine(message);
     match parsed {
         Parsed::Refused(number) => Arrived::Refused(number),
         Parsed::Fields(h) => {
-            let refused = answer_refusal(job, rows, columns, heard, h);
+            let refused = answer_refusal(job, rows, columns, h);
             if refused != 0 {
                 return Arrived::Refused(refused);
             }
             let index = h.host - 1;
             let size = (rows * columns) as usize;
+            if arrival_heard::is_heard(heard, index) {
+                return heard_again(index as usize, size, message, store);
+            }
             put_block(index as usize, size, message, store);
             let bit = 1u64 << index;
             let after = heard + bit;
@@ -124,7 +142,7 @@ fn take_message(
 }
 
 // Takes an answer's message: its elements are written over its host's block of the store, and its host counts as heard; or it
-// is refused by number, and the store stays as it was.
+// is in already, or refused by number, and the store stays as it was.
 pub fn arrive(job: Job, points: &[u32], heard: u64, store: &mut [u32], message: &[u8]) -> Arrived
     ensures outcome { λ r. ⌜ r ≡ arrived job (now (points .entry)) heard (now (store .entry)) (now (message .entry)) ⌝ }
     ensures kept { λ _. ⌜ now (store .exit)

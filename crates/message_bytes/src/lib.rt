@@ -1,9 +1,9 @@
-// Elements as bytes: they travel as 4 bytes each, big-endian. They are read, written, and tested where they stand.
+// Elements as bytes: they travel as 4 bytes each, big-endian. They are read, written, and tested or compared where they stand.
 ghost use mathlib.Core.Path.{_≡_};
 ghost use mathlib.Core.List.{_++_};
 ghost use Prim.Native.Nat.{_+_, _*_, _/_, _≤_, min};
 ghost use lib.ListN.{length, take, drop};
-ghost use Rattle.algebra.specs.Lists.{allBelow};
+ghost use Rattle.algebra.specs.Lists.{allBelow, same};
 ghost use Rattle.field.specs.Modulus.{prime};
 ghost use Rattle.message_bytes.specs.Bytes.{numberAt, bytesOf, elementsOf};
 ghost use Rattle.message_bytes.specs.Contracts.{common};
@@ -83,4 +83,23 @@ pub fn bytes_below(modulus: Modulus, bytes: &[u8]) -> bool
         i += 1;
     }
     true
+}
+
+// The bytes are those of the elements, four for each, and nothing after.
+pub fn same_bytes(bytes: &[u8], xs: &[u32]) -> bool
+    ensures { λ r. ⌜ r ≡ same (now (bytes .entry)) (bytesOf (now (xs .entry))) ⌝ }
+{
+    if bytes.len() / 4 != xs.len() {
+        return false;
+    }
+    if bytes.len() % 4 != 0 {
+        return false;
+    }
+    let mut equal = true;
+    let mut i = 0;
+    while i < xs.len() {
+        equal = equal & (element_at(bytes, i * 4) == xs[i]);
+        i += 1;
+    }
+    equal
 }

@@ -1,7 +1,8 @@
 -- Demand 1 (00): "Every plan, share, product, message, arrival and decoding inside the sheet's limits is carried out, and only
 -- the named part of a lent buffer is written. Every other input, a garden heard a second time included, gets the first refusal
 -- number that fits it in the sheet's order, and no element of any lent buffer changes."
--- It is said of the definitions that the calls' contracts cite; a call returns its number, and 0 means carried out.
+-- It is said of the definitions that the calls' contracts cite; a call returns its number, and 0 means carried out. "A garden heard
+-- a second time" gets 23 where its message differs from the first, and is "already in" where it does not (02, U1).
 --
 --   test tests i              == the test at i
 --   Judged tests n            == n is 0 exactly where no test holds; otherwise it is the number of the first that does
@@ -11,7 +12,7 @@
 --                                these; a refusal has none
 --   Demand1                   == every call is judged by its tests, in the sheet's order, and leaves its buffers so
 use mathlib.Core.Path.{_≡_}
-use mathlib.Core.Bool.{true, false}
+use mathlib.Core.Bool.{true, false, cond}
 use mathlib.Core.Logic.{_↔_}
 use mathlib.Core.List.{List, [], _++_}
 use Prim.Native.Nat.{ℕ, _<_}
@@ -29,8 +30,8 @@ use Rattle.mukerihe.specs.Host.{hostTests, hostProduct, hostAfter}
 use Rattle.message_header.specs.Header.{headerOf, elementCount, fields}
 use Rattle.message.specs.Format.{messageOf, elements, writeTests, readTests, written, readAs, readInto}
 use Rattle.message.specs.Format.{told as Format·told}
-use Rattle.arrival_heard.specs.Heard.{withHost}
-use Rattle.arrival.specs.Arriving.{answerLength, withBlock, hostIndex, arrivalTests, arrived, storeAfter, numberOf, heardAfter}
+use Rattle.arrival_heard.specs.Heard.{isHeard, withHost}
+use Rattle.arrival.specs.Arriving.{answerLength, withBlock, hostIndex, arrivalTests, arrived, storeAfter, numberOf, heardAfter, alreadyIn}
 use Rattle.decode.specs.Decoding.{tableOf, decodeTests, tableAfter}
 
 -- there is none past the end
@@ -69,13 +70,14 @@ pub record Demand1 : Type 0 where
   pub read : (message out : List ℕ) → let tests = readTests message (length out) in let t = Format·told (readAs message (length out)) in
       Tells tests t (fields (headerOf message))
       × Obeys tests (t .number) (readInto message out) (elements message ++ drop (elementCount (headerOf message)) out) out
-  -- an arrival writes its own block and sets its own bit
+  -- an arrival writes its own block and sets its own bit; where it is in already, it changes nothing
   pub arrival : (job : Job) (points : List ℕ) (heard : ℕ) (store message : List ℕ)
       → let r = arrived job points heard store message in let index = hostIndex (headerOf message) in
-      Obeys (arrivalTests job points heard (length store) message) (numberOf r) (storeAfter job points heard store message)
-      (withBlock (answerLength job) store index (elements message)) store
-      × (numberOf r ≡ 0 → heardAfter heard r ≡ withHost heard index)
+      Obeys (arrivalTests job points heard store message) (numberOf r) (storeAfter job points heard store message)
+      (cond (alreadyIn r) store (withBlock (answerLength job) store index (elements message))) store
+      × (numberOf r ≡ 0 → heardAfter heard r ≡ cond (alreadyIn r) heard (withHost heard index))
       × ((numberOf r ≡ 0 → ⊥) → heardAfter heard r ≡ heard)
+      × ((alreadyIn r ≡ true) ↔ ((numberOf r ≡ 0) × (isHeard heard index ≡ true)))
   pub decode : (job : Job) (points : List ℕ) (heard : ℕ) (store table : List ℕ)
       → let tests = decodeTests job points heard store (length table) in
       Obeys tests (first tests) (tableAfter job points heard store table) (tableOf job points heard store) table

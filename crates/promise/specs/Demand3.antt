@@ -45,7 +45,7 @@ use Rattle.message_header.specs.Header.{headerOf, elementCount}
 use Rattle.message.specs.Format.{messageOf, payload, written}
 use Rattle.arrival_heard.specs.Heard.{isHeard}
 use Rattle.arrival.specs.declared.Arrived.{Arrived}
-use Rattle.arrival.specs.Arriving.{storeLength, hostIndex, arrivalTests, arrived, storeAfter, numberOf, heardAfter}
+use Rattle.arrival.specs.Arriving.{storeLength, hostIndex, arrivalTests, arrived, storeAfter, numberOf, heardAfter, alreadyIn}
 use Rattle.decode.specs.Decoding.{tableLength, decodeTests, tableAfter}
 
 pub record Task : Type 0 where
@@ -148,14 +148,15 @@ pub record State : Type 0 where
   pub heard : ℕ
   pub store : List ℕ
 
--- a decoding's table, as the call leaves it; an arrival has none
+-- whether an arrival is told "already in" (02, U1); a decoding's table, as the call leaves it; an arrival has none
 pub record Reply : Type 0 where
   pub number : ℕ
+  pub already : Bool
   pub table : List ℕ
 
 -- no reply, and so no number of the sheet
 unfoldable pub unanswered : Reply
-unanswered = record { number = 99; table = [] }
+unanswered = record { number = 99; already = false; table = [] }
 
 module _ (x : Task) where
   -- what an arrival returns
@@ -171,10 +172,10 @@ module _ (x : Task) where
   after s (decoding table) = s
 
   unfoldable pub reply : State → Call → Reply
-  reply s (arrival message) = record { number = numberOf (arrives s message); table = [] }
+  reply s (arrival message) = record { number = numberOf (arrives s message); already = alreadyIn (arrives s message); table = [] }
   reply s (decoding table) =
       let number = first (decodeTests (x .job) (x .points) (s .heard) (s .store) (length table)) in
-      record { number = number; table = tableAfter (x .job) (x .points) (s .heard) (s .store) table }
+      record { number = number; already = false; table = tableAfter (x .job) (x .points) (s .heard) (s .store) table }
 
   unfoldable pub run : State → List Call → State
   run s [] = s
@@ -186,7 +187,7 @@ module _ (x : Task) where
 
   -- "An arrival is fit when, 21 and 23 aside, no refusal number for arrivals fits it"
   unfoldable pub fit : State → List ℕ → Bool
-  fit s message = eqb (first (except 21 (except 23 (arrivalTests (x .job) (x .points) (s .heard) (length (s .store)) message)))) 0
+  fit s message = eqb (first (except 21 (except 23 (arrivalTests (x .job) (x .points) (s .heard) (s .store) message)))) 0
 
   -- "its message is then a fit message of the host it names"
   unfoldable pub fitFor : State → ℕ → Call → Bool
