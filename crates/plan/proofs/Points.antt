@@ -3,11 +3,11 @@
 --   member-at                   a number stands among the first n
 --   member-more                 it does among one more
 --   points-numbered             every row has a number
---   points-except               none has a number from 12 on
+--   points-except               none has a number that no row of a point has
 --   pass-point                  the tests of the points up to i pass, and so do those of i
 --   stop-point                  they pass up to i, and one of i tells a number
 --   length-differs, length-same the test of the points' number
-use mathlib.Core.Path.{_≡_, refl, sym, ap, _∙_, subst}
+use mathlib.Core.Path.{_≡_, refl, sym, ap, ap₂, _∙_, subst}
 use mathlib.Core.Bool.{Bool, true, false, not, _||_}
 use mathlib.Core.Logic.{⊎-elim}
 use mathlib.Core.List.{List, [], _∷_, _++_}
@@ -46,12 +46,12 @@ module _ (q : ℕ) (points : List ℕ) where
   points-numbered zero = tt
   points-numbered (suc n) = numbered-append (allPointTests q points n) (pointTestsAt q points n) (points-numbered n) tt
 
-  pub points-except : (k n : ℕ) → except (12 + k) (allPointTests q points n) ≡ allPointTests q points n
-  unfolding allPointTests pointTestsAt except
-  points-except k zero = refl
-  points-except k (suc n) =
-      except-append (12 + k) (allPointTests q points n) (pointTestsAt q points n)
-      ∙ ap (λ (l : List Test). l ++ pointTestsAt q points n) (points-except k n)
+  pub points-except : (k : ℕ) → ((i : ℕ) → except k (pointTestsAt q points i) ≡ pointTestsAt q points i)
+      → (n : ℕ) → except k (allPointTests q points n) ≡ allPointTests q points n
+  unfolding allPointTests except
+  points-except k one zero = refl
+  points-except k one (suc n) =
+      except-append k (allPointTests q points n) (pointTestsAt q points n) ∙ ap₂ (λ (l r : List Test). l ++ r) (points-except k one n) (one n)
 
   next-point : (i : ℕ) → first (allPointTests q points i) ≡ 0 → first (allPointTests q points (suc i)) ≡ first (pointTestsAt q points i)
   unfolding allPointTests
