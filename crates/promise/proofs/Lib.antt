@@ -11,6 +11,7 @@ pub mod Exact
 pub mod Demand2
 pub mod Fits
 pub mod Blocks
+pub mod Steps
 pub mod Trace
 pub mod Made
 pub mod Yet
