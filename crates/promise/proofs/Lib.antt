@@ -17,3 +17,5 @@ pub mod Made
 pub mod Yet
 pub mod WholeNumbers
 pub mod Demand3
+pub mod Order
+pub mod Retried
