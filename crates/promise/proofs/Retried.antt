@@ -7,9 +7,8 @@
 use mathlib.Core.Path.{_≡_, refl, sym, ap, ap₂, _∙_, subst}
 use mathlib.Core.Bool.{Bool, true, false, cond, _&&_, _||_, true≢false}
 use mathlib.Core.Logic.{⊎-elim}
-use mathlib.Core.List.{List, [], _∷_, _++_}
+use mathlib.Core.List.{List, [], _∷_}
 use Prim.Native.Nat.{ℕ, suc, _^_, _<_}
-use lib.ListN.{length, getD}
 use lib.Pow.{pow-pos}
 use lib.Seq.{drop-at}
 use Rattle.algebra.specs.Lists.{AllBelow, same}
@@ -28,7 +27,7 @@ use Rattle.arrival_heard.proofs.Bits.{none-heard}
 use Rattle.arrival.specs.declared.Arrived.{Arrived}
 use Rattle.arrival.specs.declared.Arrived.the-variants.{Taken, AlreadyIn, Refused}
 use Rattle.arrival.specs.Arriving.{answerLength, blockAt, repeated, entered, arrived, numberOf, alreadyIn}
-use Rattle.promise.specs.Demand3.{Task, Call, arrival, decoding, State, Reply, unanswered, arrives, after, reply, run, replies}
+use Rattle.promise.specs.Demand3.{Task, Call, arrival, decoding, State, Reply, arrives, after, reply, run}
 use Rattle.promise.specs.Demand3.{fit, fitFor, hasFit, bytes, firstFit, begin, answerHeader}
 use Rattle.promise.specs.Retried.{index, Bytes, stored, taken, already, differs, RetriedUploads}
 use Rattle.promise.proofs.Fits.{core, fit-message}
@@ -162,7 +161,7 @@ module _ (x : Task) (store : List ℕ) where
       let here = run x (begin store) before in
       let begun : Good x (begin store)
       = ⊎-elim (λ good. good)
-      (λ still. fit-good x (begin store) message none-above (subst (λ (s : State). fit x s message ≡ true) (run-still x (begin store) still before) f))
+      (λ still. fit-good x (begin store) message (subst (λ (s : State). fit x s message ≡ true) (run-still x (begin store) still before) f) none-above)
       (good-or-still x (begin store)) in
       let good = ran x before (begin store) begun .good in
       let is : Bool → Reply = λ t. cond t (cond (same message (firstFit x (begin store) before i)) already differs) taken in
@@ -176,7 +175,7 @@ module _ (x : Task) (store : List ℕ) where
 pub retried : RetriedUploads
 retried x = record {
   again = λ s none message made f h.
-      let good = fit-good x s message none f in
+      let good = fit-good x s message f none in
       let kept = stored x s (index message) in
       let told : reply x s (arrival message) ≡ cond (same message kept) already differs = reply-heard x s good message f h made refl in
       let by : Bool → Reply = λ t. cond t already differs in (

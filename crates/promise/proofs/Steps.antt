@@ -2,12 +2,12 @@
 --
 --   Good           a state in which no plan number, 21 or 13 fits: no bit above N, and a store of exact length
 --   good-or-still  a state is good, or no call changes it
+--   passed         a fit message has passed its tests, 22 and 12
 --   fit-good       a state with a fit arrival and no bit above N is good
 --   Step           what one call does to the hosts heard and to the blocks of a good state
 --   number         the number that an arrival is told
 --   after-again    an arrival of a host heard changes nothing, whatever it is told
 --   named          an arrival that is fit for a host names it
---   passed         a fit message has passed its tests, 22 and 12
 --   number-fit     23 alone decides the number of a fit arrival
 --   stepped        every call does what a step does
 use mathlib.Core.Path.{_≡_, refl, sym, ap, ap₂, _∙_, subst}
@@ -22,7 +22,7 @@ use lib.ListN.{length}
 use borrow.Author.Tests.{eqb-true, eqb-false, eq-eqb, leb-false}
 use Rattle.algebra.specs.Lists.{AllBelow}
 use Rattle.algebra.proofs.Tests.{by-test, or-true, or-false, equal}
-use Rattle.refusal.specs.Chain.{first, outcome, unlessRefused}
+use Rattle.refusal.specs.Chain.{first, except, outcome, unlessRefused}
 use Rattle.refusal.proofs.Chains.{first-none, first-miss, first-clear, first-append, first-append-clear, first-append-hit}
 use Rattle.plan.specs.Planning.{prime, planTests}
 use Rattle.plan.proofs.Then.{plan-numbered}
@@ -126,11 +126,18 @@ module _ (x : Task) (s : State) where
       (λ (e : eqb first-tests 0 ≡ false). inr (kept (eqb-false first-tests 0 e)))
       (by-test (eqb first-tests 0))
 
-  pub fit-good : (message : List ℕ) → s .heard < 2 ^ x .job .hosts → fit x s message ≡ true → Good x s
-  unfolding fit
-  fit-good message none-above f =
-      let p = fit-passed (x .job) (x .points) (s .heard) (s .store) message (eqb-true _ 0 f) in
-      record { planned = p .planned; none-above = none-above; room = p .room }
+  module _ (message : List ℕ) (f : fit x s message ≡ true) where
+    fit-has : Passed (x .job) (x .points) (s .heard) (s .store) message
+    unfolding fit
+    fit-has =
+        let n = first (except 21 (except 23 (arrivalTests (x .job) (x .points) (s .heard) (s .store) message))) in
+        fit-passed (x .job) (x .points) (s .heard) (s .store) message (eqb-true n 0 f)
+
+    pub passed : first (core (x .job) message) ≡ 0
+    passed = fit-has .clear
+
+    pub fit-good : s .heard < 2 ^ x .job .hosts → Good x s
+    fit-good none-above = record { planned = fit-has .planned; none-above = none-above; room = fit-has .room }
 
 -- ---- a step from a good state
 
@@ -149,13 +156,9 @@ module _ (x : Task) (s : State) (message : List ℕ) where
       ⊎-elim (λ (t : fitFor x s i (arrival message) ≡ true). absurd (ne (named i t .1))) (λ (f : fitFor x s i (arrival message) ≡ false). f)
       (by-test (fitFor x s i (arrival message)))
 
-  pub passed : fit x s message ≡ true → first (core (x .job) message) ≡ 0
-  unfolding fit
-  passed f = fit-passed (x .job) (x .points) (s .heard) (s .store) message (eqb-true _ 0 f) .clear
-
   below-of : (i : ℕ) → fitFor x s i (arrival message) ≡ true → AllBelow (prime (x .job)) (elements (bytes x (arrival message)))
   unfolding bytes
-  below-of i f = fit-message (x .job) message (passed (named i f .0)) .below
+  below-of i f = fit-message (x .job) message (passed x s message (named i f .0)) .below
 
 module _ (x : Task) (s : State) (good : Good x s) where
   -- nothing changes, and no new host has a fit message
