@@ -31,7 +31,7 @@ mul-if1 c = search needs
 returns : tie.Need-returns Inv-loop μ-loop
 returns c =
     let a = c .before .before .before .args in
-    sym (same-long (a .bytes .now) (bytesOf (a .xs .now)) (λ e. c .if1 .taken (omega (arith, e, length-bytesOf (a .xs .now)))))
+    sym (same-long (a .bytes .now) (bytesOf (a .xs .now)) (λ e. let no : ⊥ = omega (arith, e, length-bytesOf (a .xs .now)) in no))
 
 loop-holds : tie.Need-loop-holds Inv-loop μ-loop
 loop-holds c =
