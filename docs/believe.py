@@ -14,7 +14,7 @@ from pathlib import Path
 
 TOP = Path(__file__).resolve().parent.parent
 PAGE = TOP / "docs" / "BELIEVE.md"
-ROOTS = [("promise", f"Demand{n}", f"Demand{n}") for n in (1, 2, 3)]
+ROOTS = [("promise", f"Demand{n}", f"Demand{n}") for n in (1, 2, 3)] + [("promise", "Retried", "RetriedUploads")]
 MOST_LINES = 600
 RELATION = re.compile(r"[≡≤<↔≈]")
 
@@ -169,9 +169,9 @@ def page():
     text = [
         "# What must be believed",
         "",
-        "The three demands are the records `Demand1`, `Demand2` and `Demand3` (`crates/promise/specs`). Who wants to see that they say what the minutes",
-        "say reads the definitions and the statements below, each file after those that it uses, and needs nothing else. All else in `specs/` is",
-        "how the code does it, in files named `Contracts`, or what is promised beside the demands. Everything in `proofs/` is checked by the prover.",
+        "The three demands are the records `Demand1`, `Demand2` and `Demand3`, and request U1 is the record `Retried` (`crates/promise/specs`). Who wants to",
+        "see that they say what the papers say reads the definitions and the statements below, each file after those that it uses, and needs nothing else. All",
+        "else in `specs/` is how the code does it, in files named `Contracts`, or what is promised beside these. Everything in `proofs/` is checked by the prover.",
         "",
         f"{statements[1]} statements in {statements[2]} lines, made of {definitions[1]} definitions in {definitions[2]} lines and {types[1]} structs and enums of the code in {types[2]} lines.",
         "Comments are not counted. `docs/believe.py` writes this page from the files, and the gate checks that it is true.",

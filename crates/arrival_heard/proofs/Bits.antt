@@ -7,6 +7,7 @@
 --   with-below             a number that then stays below 2 ^ n
 --   ones-size              the count of ones tells how many hosts are heard
 --   lowest-within          all the hosts heard are among the first n
+--   bits-alike             two numbers in which the same hosts are heard are the same
 use mathlib.Core.Path.{_≡_, refl, sym, ap, _∙_}
 use mathlib.Core.Bool.{Bool, true, false}
 use mathlib.Core.Logic.{⊎-elim}
@@ -148,3 +149,27 @@ module _ (h : ℕ) where
   pub lowest-within : (k n : ℕ) → h < 2 ^ n → n ≤ 64 → lowest k h 64 ≡ lowest k h n
   unfolding lowest
   lowest-within k n b l = ap (take k) (members-within n 64 b l)
+
+-- ---- the bits tell the number
+
+-- the bits from the second on are those of the half
+half-bit : (h i : ℕ) → isHeard h (suc i) ≡ isHeard (h / 2) i
+unfolding isHeard
+half-bit h i =
+    let next : 1 + i ≡ suc i = omega arith in
+    ap (λ (k : ℕ). eqb (k % 2) 1) (ap (λ (k : ℕ). h / 2 ^ k) (sym next) ∙ sym (shr-shr h 1 i))
+
+low-bit : (h k : ℕ) → isHeard h 0 ≡ isHeard k 0 → h % 2 ≡ k % 2
+unfolding isHeard
+low-bit h k e =
+    ⊎-elim (λ (t : eqb (h / 1 % 2) 1 ≡ true). omega (arith, eqb-true (h / 1 % 2) 1 t, eqb-true (k / 1 % 2) 1 (sym e ∙ t)))
+    (λ (f : eqb (h / 1 % 2) 1 ≡ false). omega (arith, even h 0 f, even k 0 (sym e ∙ f)))
+    (by-test (eqb (h / 1 % 2) 1))
+
+pub bits-alike : (n h k : ℕ) → h < 2 ^ n → k < 2 ^ n → ((i : ℕ) → isHeard h i ≡ isHeard k i) → h ≡ k
+bits-alike zero h k a b same = omega arith
+bits-alike (suc n) h k a b same =
+    let two : 2 ^ suc n ≡ 2 ^ n * 2 = pow-suc 2 n in
+    let rest : h / 2 ≡ k / 2
+    = bits-alike n (h / 2) (k / 2) (omega arith) (omega arith) (λ i. sym (half-bit h i) ∙ same (suc i) ∙ half-bit k i) in
+    omega (arith, rest, low-bit h k (same 0))

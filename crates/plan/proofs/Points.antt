@@ -3,13 +3,14 @@
 --   member-at                   a number stands among the first n
 --   member-more                 it does among one more
 --   points-numbered             every row has a number
+--   points-except               none has a number that no row of a point has
 --   pass-point                  the tests of the points up to i pass, and so do those of i
 --   stop-point                  they pass up to i, and one of i tells a number
 --   length-differs, length-same the test of the points' number
-use mathlib.Core.Path.{_≡_, refl, sym, ap, _∙_, subst}
+use mathlib.Core.Path.{_≡_, refl, sym, ap, ap₂, _∙_, subst}
 use mathlib.Core.Bool.{Bool, true, false, not, _||_}
 use mathlib.Core.Logic.{⊎-elim}
-use mathlib.Core.List.{List, [], _∷_}
+use mathlib.Core.List.{List, [], _∷_, _++_}
 use Prim.Native.Nat.{ℕ, zero, suc, _+_, _≤_, _<_}
 use native.Mathlib.Nat.{not-suc-le-zero, le-of-suc-le-suc, eq-or-lt-of-le, suc-ne-zero}
 use native.Mathlib.Numerals.{add-one}
@@ -18,8 +19,9 @@ use lib.Dec.{T, eqb}
 use lib.ListN.{length, getD, take}
 use borrow.Author.Tests.{eq-eqb, ne-eqb}
 use Rattle.algebra.proofs.Tests.{or-true, or-false, or-assoc}
-use Rattle.refusal.specs.Chain.{first}
+use Rattle.refusal.specs.Chain.{Test, first, except}
 use Rattle.refusal.proofs.Chains.{first-hit, first-miss, numbered, numbered-append, first-append, first-append-hit}
+use Rattle.refusal.proofs.Except.{except-append}
 use Rattle.plan.specs.Planning.{member, pointTestsAt, allPointTests, pointTests}
 
 pub member-at : (xs : List ℕ) (n i x : ℕ) → i < n → i < length xs → getD xs i 0 ≡ x → member x (take n xs) ≡ true
@@ -43,6 +45,13 @@ module _ (q : ℕ) (points : List ℕ) where
   unfolding allPointTests pointTestsAt numbered
   points-numbered zero = tt
   points-numbered (suc n) = numbered-append (allPointTests q points n) (pointTestsAt q points n) (points-numbered n) tt
+
+  pub points-except : (k : ℕ) → ((i : ℕ) → except k (pointTestsAt q points i) ≡ pointTestsAt q points i)
+      → (n : ℕ) → except k (allPointTests q points n) ≡ allPointTests q points n
+  unfolding allPointTests except
+  points-except k one zero = refl
+  points-except k one (suc n) =
+      except-append k (allPointTests q points n) (pointTestsAt q points n) ∙ ap₂ (λ (l r : List Test). l ++ r) (points-except k one n) (one n)
 
   next-point : (i : ℕ) → first (allPointTests q points i) ≡ 0 → first (allPointTests q points (suc i)) ≡ first (pointTestsAt q points i)
   unfolding allPointTests

@@ -1,16 +1,17 @@
--- A store of blocks, one of which is replaced.
+-- A store of blocks.
 --
---   length-with    it stays as long
---   block-own      the block that was replaced
+--   length-with    a store with one block replaced is as long
+--   block-own      that block
 --   block-other    the others stay
-use mathlib.Core.Path.{_≡_, sym, ap, _∙_}
+--   blocks-alike   two stores of the same blocks are the same
+use mathlib.Core.Path.{_≡_, sym, ap, ap₂, _∙_}
 use mathlib.Core.Logic.{⊎-elim}
 use mathlib.Core.List.{List, _++_}
-use Prim.Native.Nat.{ℕ, _+_, _-_, _*_, _<_, _≤_, min}
-use native.Mathlib.Nat.{mul-le-mul-right, eq-or-lt-of-le}
+use Prim.Native.Nat.{ℕ, zero, suc, _+_, _-_, _*_, _<_, _≤_, min}
+use native.Mathlib.Nat.{mul-le-mul-right, eq-or-lt-of-le, lt-suc-self}
 use native.Mathlib.Omega.{arith}
 use lib.ListN.{length, getD, take, drop, length-append, length-take, length-drop, List·getD-append}
-use lib.Seq.{length-take-le, take-at, drop-at, getD-append-add, getD-take, getD-drop, ext-getD}
+use lib.Seq.{length-take-le, take-add, take-all, take-at, drop-at, getD-append-add, getD-take, getD-drop, ext-getD}
 use Rattle.algebra.proofs.Orders.{le-or-lt}
 use Rattle.arrival.specs.Arriving.{blockAt, withBlock}
 
@@ -73,3 +74,22 @@ module _ (size : ℕ) (store : List ℕ) (i : ℕ) (xs : List ℕ) (room : i * s
       ∙ outside j e ne inside
       ∙ sym (getD-drop (j * size) store e 0)
       ∙ sym (getD-take size (drop (j * size) store) e 0 inside))
+
+module _ (size : ℕ) (xs ys : List ℕ) where
+  -- the first n blocks
+  fronts-alike : (n : ℕ) → ((i : ℕ) → i < n → blockAt size xs i ≡ blockAt size ys i) → take (n * size) xs ≡ take (n * size) ys
+  unfolding blockAt
+  fronts-alike zero same =
+      let none : 0 * size ≡ 0 = omega arith in
+      ap (λ (k : ℕ). take k xs) none ∙ sym (ap (λ (k : ℕ). take k ys) none)
+  fronts-alike (suc n) same =
+      let next : suc n * size ≡ n * size + size = omega arith in
+      ap (λ (k : ℕ). take k xs) next
+      ∙ take-add (n * size) size xs
+      ∙ ap₂ (λ (l r : List ℕ). l ++ r) (fronts-alike n (λ i l. same i (omega arith))) (same n (lt-suc-self n))
+      ∙ sym (ap (λ (k : ℕ). take k ys) next ∙ take-add (n * size) size ys)
+
+  pub blocks-alike : (n : ℕ) → length xs ≡ n * size → length ys ≡ n * size
+      → ((i : ℕ) → i < n → blockAt size xs i ≡ blockAt size ys i) → xs ≡ ys
+  blocks-alike n a b same =
+      sym (take-all (n * size) xs (omega arith)) ∙ fronts-alike n same ∙ take-all (n * size) ys (omega arith)

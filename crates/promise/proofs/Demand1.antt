@@ -6,7 +6,8 @@
 --   demand-1   the demand holds
 --   other-calls  the calls that it does not name are judged so, too
 use mathlib.Core.Path.{_≡_, refl, sym, ap, _∙_, subst}
-use mathlib.Core.Bool.{true, false, not, true≢false}
+use mathlib.Core.Bool.{Bool, true, false, cond, not, true≢false}
+use mathlib.Core.Logic.{_↔_}
 use mathlib.Core.List.{List, [], _∷_, _++_}
 use Prim.Native.Nat.{ℕ, zero, suc, _<_, suc-le-suc}
 use native.Mathlib.Nat.{not-suc-le-zero, le-of-suc-le-suc, zero-lt-suc, suc-ne-zero}
@@ -24,12 +25,14 @@ use Rattle.share.specs.Sharing.{shareTests, shareAfter}
 use Rattle.product.specs.Product.{productTests, productAfter}
 use Rattle.mukerihe.specs.Host.{hostTests, hostAfter}
 use Rattle.message_header.specs.Header.{headerOf, headerTests, fieldTests}
-use Rattle.message.specs.Format.{writeTests, messageTests, readTests, written, readInto}
+use Rattle.message.specs.Format.{elements, writeTests, messageTests, readTests, written, readInto}
 use Rattle.message.proofs.Outcomes.{read-told}
-use Rattle.arrival.specs.declared.Arrived.the-variants.{Taken}
+use Rattle.arrival.specs.declared.Arrived.{Arrived}
+use Rattle.arrival.specs.declared.Arrived.the-variants.{Taken, AlreadyIn}
 use Rattle.arrival.specs.declared.Arrived.the-variants.{Refused as Arrived·Refused}
-use Rattle.arrival_heard.specs.Heard.{withHost}
-use Rattle.arrival.specs.Arriving.{hostIndex, stateTests, answerTests, arrivalTests, arrived, storeAfter, numberOf, heardAfter}
+use Rattle.arrival_heard.specs.Heard.{isHeard, withHost}
+use Rattle.arrival.specs.Arriving.{answerLength, withBlock, hostIndex, stateTests, answerTests, againTests, arrivalTests}
+use Rattle.arrival.specs.Arriving.{entered, storeEntered, arrived, storeAfter, numberOf, heardAfter, alreadyIn}
 use Rattle.decode.specs.Decoding.{tableTests, decodeTests, tableAfter}
 use Rattle.field.proofs.Moduli.{told-named}
 use Rattle.field_signed.specs.Signed.{signedTests, elementTests}
@@ -79,30 +82,54 @@ tells tests values {t} ok e =
       refused = λ ne. ap (λ a. a .values) (e ∙ outcome-refused (done values) refused n (λ z. ne (number ∙ z)));
     }
 
--- the number that an arrival returns
-module _ (job : Job) (points : List ℕ) (heard : ℕ) (store message : List ℕ) where
-  arrived-number : numberOf (arrived job points heard store message) ≡ first (arrivalTests job points heard (length store) message)
-  unfolding arrived outcome
-  arrived-number = go (first (arrivalTests job points heard (length store) message))
-    where
-      go : (n : ℕ) → numberOf (outcome n (Taken (withHost heard (hostIndex (headerOf message)))) Arrived·Refused) ≡ n
-      go zero = refl
-      go (suc n) = refl
+-- what an arrival returns and leaves, by its number and by whether its host is heard
+module _ (job : Job) (heard : ℕ) (store message : List ℕ) where
+  put : List ℕ
+  put = withBlock (answerLength job) store (hostIndex (headerOf message)) (elements message)
 
-  heard-done : numberOf (arrived job points heard store message) ≡ 0 → heardAfter heard (arrived job points heard store message) ≡ withHost heard (hostIndex (headerOf message))
-  unfolding arrived
-  heard-done e = ap (heardAfter heard) (outcome-done _ Arrived·Refused _ (sym arrived-number ∙ e))
+  next : ℕ
+  next = withHost heard (hostIndex (headerOf message))
 
-  heard-kept : (numberOf (arrived job points heard store message) ≡ 0 → ⊥) → heardAfter heard (arrived job points heard store message) ≡ heard
-  unfolding arrived
-  heard-kept ne = ap (heardAfter heard) (outcome-refused _ Arrived·Refused _ (λ z. ne (arrived-number ∙ z)))
+  outcome-by : ℕ → Bool → Arrived
+  outcome-by n h = outcome n (cond h AlreadyIn (Taken next)) Arrived·Refused
+
+  record Left (n : ℕ) (h : Bool) : Type 0 where
+    number : numberOf (outcome-by n h) ≡ n
+    made : numberOf (outcome-by n h) ≡ 0 → cond h store put ≡ cond (alreadyIn (outcome-by n h)) store put
+    heard-made : numberOf (outcome-by n h) ≡ 0 → heardAfter heard (outcome-by n h) ≡ cond (alreadyIn (outcome-by n h)) heard next
+    heard-kept : (numberOf (outcome-by n h) ≡ 0 → ⊥) → heardAfter heard (outcome-by n h) ≡ heard
+    already : (alreadyIn (outcome-by n h) ≡ true) ↔ ((numberOf (outcome-by n h) ≡ 0) × (h ≡ true))
+
+  left-by : (n : ℕ) (h : Bool) → Left n h
+  unfolding outcome-by outcome
+  left-by zero true = record {
+    number = refl;
+    made = λ z. refl;
+    heard-made = λ z. refl;
+    heard-kept = λ ne. refl;
+    already = ((λ e. (refl, refl)), (λ e. refl));
+  }
+  left-by zero false = record {
+    number = refl;
+    made = λ z. refl;
+    heard-made = λ z. refl;
+    heard-kept = λ ne. absurd (ne refl);
+    already = ((λ e. absurd (true≢false (sym e))), (λ e. absurd (true≢false (sym (e .1)))));
+  }
+  left-by (suc n) h = record {
+    number = refl;
+    made = λ z. absurd (suc-ne-zero n z);
+    heard-made = λ z. absurd (suc-ne-zero n z);
+    heard-kept = λ ne. refl;
+    already = ((λ e. absurd (true≢false (sym e))), (λ e. absurd (suc-ne-zero n (e .0))));
+  }
 
 -- the plan's tests, and then a call's own
 after-plan : (job : Job) (points : List ℕ) (tests : List Test) → T (numbered tests) → T (numbered (planTests job points ++ tests))
 after-plan job points tests = numbered-append (planTests job points) tests (plan-numbered job points)
 
 pub demand-1 : Demand1
-unfolding shareTests matrixTests shareAfter productTests productAfter hostTests hostAfter fieldTests writeTests messageTests headerTests readTests written readInto stateTests answerTests arrivalTests storeAfter decodeTests tableTests tableAfter numbered
+unfolding shareTests matrixTests shareAfter productTests productAfter hostTests hostAfter fieldTests writeTests messageTests headerTests readTests written readInto stateTests answerTests againTests arrivalTests entered storeEntered arrived storeAfter put next outcome-by decodeTests tableTests tableAfter numbered
 demand-1 = record {
   plan = λ job points. tells (planTests job points) _ (plan-numbered job points) (plan-told job points);
   share = λ m job points host xs ms out. called _ _ _ (after-plan job points _ tt) refl;
@@ -112,11 +139,16 @@ demand-1 = record {
   read = λ message out.
       let is = read-told message (length out) in
       (tells _ _ tt is, called _ _ _ tt (ap (λ a. a .number) is ∙ told-number _ _));
-  arrival = λ job points heard store message. (
-    called _ _ _ (after-plan job points _ tt) (arrived-number job points heard store message),
-    heard-done job points heard store message,
-    heard-kept job points heard store message,
-  );
+  arrival = λ job points heard store message.
+      let tests = arrivalTests job points heard store message in
+      let index = hostIndex (headerOf message) in
+      let l = left-by job heard store message (first tests) (isHeard heard index) in
+      let c = called tests (storeEntered (answerLength job) heard store message) store (after-plan job points _ tt) (l .number) in (
+        record { judged = c .judged; carried-out = λ z. c .carried-out z ∙ l .made z; refused = c .refused },
+        l .heard-made,
+        l .heard-kept,
+        l .already,
+      );
   decode = λ job points heard store table. called _ _ _ (after-plan job points _ tt) refl;
 }
 

@@ -11,8 +11,11 @@ pub mod Exact
 pub mod Demand2
 pub mod Fits
 pub mod Blocks
+pub mod Steps
 pub mod Trace
 pub mod Made
 pub mod Yet
 pub mod WholeNumbers
 pub mod Demand3
+pub mod Order
+pub mod Retried

@@ -33,13 +33,14 @@ use Rattle.message.proofs.RoundTrips.{reads-back}
 use Rattle.arrival_heard.specs.Heard.{isHeard, someAbove}
 use Rattle.arrival_heard.proofs.Bits.{none-heard, ones-size}
 use Rattle.arrival.proofs.Outcomes.{message-numbered}
-use Rattle.arrival.specs.Arriving.{answerLength, storeLength, blockAt, hostIndex, foreign}
+use Rattle.arrival.specs.Arriving.{answerLength, storeLength, blockAt, hostIndex, foreign, answerTests}
 use Rattle.product.specs.Product.{productOf}
 use Rattle.decode.specs.Decoding.{tableLength, heardBelow, tableTests, decodeTests, tableAfter}
-use Rattle.promise.specs.Demand3.{Task, Accepted, Call, arrival, decoding, State, Reply, unanswered, reply, run, replies, matrix, fitFor, hasFit, firstFit, begin, answerHeader, headerFor, shareFor, trueProduct, Trace}
-use Rattle.promise.proofs.Fits.{core, others, fit-core}
+use Rattle.promise.specs.Demand3.{Task, Accepted, Call, arrival, decoding, State, Reply, unanswered, reply, run, replies, matrix, fit, fitFor, hasFit, firstFit, begin, answerHeader, headerFor, shareFor, trueProduct, Trace}
+use Rattle.promise.proofs.Fits.{core, fit-core}
 use Rattle.promise.proofs.Made.{answer, answer-written}
-use Rattle.promise.proofs.Trace.{Good, Ran, ran, replies-at}
+use Rattle.promise.proofs.Steps.{Good}
+use Rattle.promise.proofs.Trace.{Ran, ran, heard-is, replies-at}
 use Rattle.promise.proofs.Exact.{exact, answerBlock}
 
 module _ (x : Task) (ok : Accepted x) (ma mb : List ℕ) (i : ℕ) (low : i < x .job .hosts) where
@@ -61,11 +62,11 @@ module _ (x : Task) (ok : Accepted x) (ma mb : List ℕ) (i : ℕ) (low : i < x 
   unfolding message
   elements-true = ap elements is-message ∙ read .same-elements
 
-  core-clear : first (core x message) ≡ 0
-  unfolding core others foreign answerHeader headerFor
+  core-clear : first (core (x .job) message) ≡ 0
+  unfolding core answerTests foreign answerHeader headerFor
   core-clear =
       let job = x .job in
-      first-append (messageTests message) (others x message) (message-numbered message) (ap (λ (m : List ℕ). first (messageTests m)) is-message ∙ read .accepted)
+      first-append (messageTests message) (answerTests job (headerOf message)) (message-numbered message) (ap (λ (m : List ℕ). first (messageTests m)) is-message ∙ read .accepted)
       ∙ first-miss _ 22 _
       (ap (foreign job) header-is
       ∙ ap₂ _||_ (ap₂ _||_ (ap₂ _||_ (ap₂ _||_ (alike 3 3 refl) (alike (job .number) (job .number) refl)) (alike (job .modulus) (job .modulus) refl))
@@ -75,9 +76,9 @@ module _ (x : Task) (ok : Accepted x) (ma mb : List ℕ) (i : ℕ) (low : i < x 
       ∙ first-none
 
   pub true-fit : (s : State) → length (s .store) ≡ storeLength (x .job) → fitFor x s i (arrival (trueProduct x (suc i) ma mb)) ≡ true
-  unfolding fitFor hostIndex message answerHeader headerFor
+  unfolding fitFor fit hostIndex message answerHeader headerFor
   true-fit s room =
-      ap₂ _&&_ (fit-core x ok s room message ∙ eq-eqb (first (core x message)) 0 core-clear)
+      ap₂ _&&_ (fit-core (x .job) (x .points) (s .heard) (s .store) message (ok .planned) room ∙ eq-eqb (first (core (x .job) message)) 0 core-clear)
       (eq-eqb (headerOf message .host - 1) i (ap (λ (h : Header). h .host - 1) header-is ∙ (let e : suc i - 1 ≡ i = omega arith in e)))
 
 pub heard-below : (q size heard : ℕ) (store : List ℕ) (n : ℕ)
@@ -120,30 +121,26 @@ module _ (x : Task) (ok : Accepted x) (s : State) (good : Good x s)
 module _ (x : Task) (ok : Accepted x) (ma mb store : List ℕ) (room : length store ≡ storeLength (x .job)) where
   start : Good x (begin store)
   unfolding begin
-  start = record { none-above = pow-pos (x .job .hosts); room = room }
+  start = record { planned = ok .planned; none-above = pow-pos (x .job .hosts); room = room }
 
   ran-from : (calls : List Call) → Ran x (begin store) calls
-  ran-from calls = ran x ok calls (begin store) start
-
-  heard-is : (calls : List Call) (i : ℕ) → isHeard (run x (begin store) calls .heard) i ≡ hasFit x (begin store) calls i
-  unfolding begin
-  heard-is calls i = ran-from calls .heard i ∙ ap (λ (t : Bool). t || hasFit x (begin store) calls i) (none-heard i)
+  ran-from calls = ran x calls (begin store) start
 
   -- the block of a host heard is its first fit message's
   block-is : (calls : List Call) (i : ℕ) → isHeard (run x (begin store) calls .heard) i ≡ true
       → blockAt (answerLength (x .job)) (run x (begin store) calls .store) i ≡ elements (firstFit x (begin store) calls i)
   unfolding begin
-  block-is calls i e = ran-from calls .new i (none-heard i) (sym (heard-is calls i) ∙ e)
+  block-is calls i e = ran-from calls .new i (none-heard i) (sym (heard-is x store start calls i) ∙ e)
 
   block-below : (calls : List Call) (i : ℕ) → isHeard (run x (begin store) calls .heard) i ≡ true
       → AllBelow (prime (x .job)) (blockAt (answerLength (x .job)) (run x (begin store) calls .store) i)
   block-below calls i e =
-      subst (λ (xs : List ℕ). AllBelow (prime (x .job)) xs) (sym (block-is calls i e)) (ran-from calls .below i (sym (heard-is calls i) ∙ e))
+      subst (λ (xs : List ℕ). AllBelow (prime (x .job)) xs) (sym (block-is calls i e)) (ran-from calls .below i (sym (heard-is x store start calls i) ∙ e))
 
   -- as many are heard as have a fit message
   count-is : (calls : List Call) → size (isHeard (run x (begin store) calls .heard)) (x .job .hosts) ≡ size (hasFit x (begin store) calls) (x .job .hosts)
   unfolding size
-  count-is calls = ap length (members-cong _ _ (x .job .hosts) (λ i l. heard-is calls i))
+  count-is calls = ap length (members-cong _ _ (x .job .hosts) (λ i l. heard-is x store start calls i))
 
   module _ (before rest : List Call) (table : List ℕ) (exact-length : length table ≡ tableLength (x .job)) where
     state : State
@@ -158,7 +155,7 @@ module _ (x : Task) (ok : Accepted x) (ma mb store : List ℕ) (room : length st
         → getD (replies x (begin store) calls) (length before) unanswered ≡ reply x state (decoding table)
     unfolding state
     reply-is calls e =
-        ap (λ (cs : List Call). getD (replies x (begin store) cs) (length before) unanswered) e ∙ replies-at x ok before rest (decoding table) (begin store)
+        ap (λ (cs : List Call). getD (replies x (begin store) cs) (length before) unanswered) e ∙ replies-at x before rest (decoding table) (begin store)
 
     decides-fit : (calls : List Call) → calls ≡ before ++ (decoding table ∷ rest)
         → (getD (replies x (begin store) calls) (length before) unanswered .number ≡ 0)
@@ -182,11 +179,11 @@ module _ (x : Task) (ok : Accepted x) (ma mb store : List ℕ) (room : length st
         ap (λ (r : Reply). r .table) (reply-is calls e)
         ∙ unless-done _ _ table (decides .1 many)
         ∙ exact x ok ma mb (state .heard) (state .store) many (λ h l is-heard.
-        block-is before h is-heard ∙ ap elements (true-first h l (sym (heard-is before h) ∙ is-heard)) ∙ elements-true x ok ma mb h l)
+        block-is before h is-heard ∙ ap elements (true-first h l (sym (heard-is x store start before h) ∙ is-heard)) ∙ elements-true x ok ma mb h l)
 
   pub yet : (calls : List Call) → Trace x ma mb store calls
   yet calls = record {
-    heard = heard-is calls;
+    heard = heard-is x store start calls;
     none-above = ran-from calls .good .none-above;
     carried-out = λ before rest table e exact-length. decides-fit before rest table exact-length calls e;
     exact = λ before rest table e exact-length. table-is before rest table exact-length calls e;
