@@ -12,19 +12,23 @@
 --   below-drop, below-part    a part of a list
 --   below-none, below-step, below-more, below-all  the test, element by element
 --   below-stop                one element that is not below
+--   same-refl, same-eq        equal lists pass the test `same`, and those that pass it are equal
+--   same-long                 lists of unlike lengths fail it
+--   same-append               lists in two parts, the first ones of equal lengths
+--   same-none, same-step, same-all  the test, element by element
 use mathlib.Core.Path.{_≡_, refl, sym, ap, ap₂, _∙_}
-use mathlib.Core.Bool.{Bool, true, false, _&&_}
+use mathlib.Core.Bool.{Bool, true, false, _&&_, true≢false, and-eq-true-iff, and-true, and-assoc}
 use mathlib.Core.Logic.{⊎-elim}
 use mathlib.Core.List.{List, [], _∷_, _++_, map}
 use Prim.Native.Nat.{ℕ, zero, suc, _+_, _-_, _<_, _≤_, suc-le-suc}
-use native.Mathlib.Nat.{not-suc-le-zero, le-of-suc-le-suc, eq-or-lt-of-le}
+use native.Mathlib.Nat.{not-suc-le-zero, le-of-suc-le-suc, eq-or-lt-of-le, suc-ne-zero}
 use native.Mathlib.Numerals.{add-one}
 use native.Mathlib.Omega.{arith}
-use lib.Dec.{T, ltb, ltb→lt}
+use lib.Dec.{T, eqb, ltb, ltb→lt}
 use lib.ListN.{length, getD, take, drop, set, length-append, List·getD-append, List·getD-eq-default, length-take, length-drop}
-use lib.Seq.{getD-at, getD-take, getD-drop, take-all, take-append-le, take-suc, take-suc-set}
-use Rattle.algebra.specs.Lists.{tab, AllBelow, allBelow}
-use borrow.Author.Tests.{lt-ltb}
+use lib.Seq.{getD-at, getD-take, getD-drop, take-all, take-append-le, take-suc, take-suc-set, length-take-le}
+use Rattle.algebra.specs.Lists.{tab, AllBelow, allBelow, same}
+use borrow.Author.Tests.{lt-ltb, eqb-true, eq-eqb}
 use Rattle.algebra.proofs.Orders.{le-or-lt}
 use Rattle.algebra.proofs.Tests.{by-test, and-left, and-right}
 
@@ -136,3 +140,48 @@ below-all q xs n h = ap (allBelow q) (sym (take-all n xs h))
 pub below-stop : (q : ℕ) (xs : List ℕ) (i : ℕ) → i < length xs → q ≤ getD xs i 0 → allBelow q xs ≡ false
 below-stop q xs i h l =
     ⊎-elim (λ (t : allBelow q xs ≡ true). let b : getD xs i 0 < q = all-below-test q xs t i h in absurd (let no : ⊥ = omega arith in no)) (λ f. f) (by-test (allBelow q xs))
+
+-- ---- lists that are compared
+
+pub same-refl : (xs : List ℕ) → same xs xs ≡ true
+unfolding same
+same-refl [] = refl
+same-refl (x ∷ xs) = ap₂ _&&_ (eq-eqb x x refl) (same-refl xs)
+
+pub same-eq : (xs ys : List ℕ) → same xs ys ≡ true → xs ≡ ys
+unfolding same
+same-eq [] [] e = refl
+same-eq [] (y ∷ ys) e = absurd (true≢false (sym e))
+same-eq (x ∷ xs) [] e = absurd (true≢false (sym e))
+same-eq (x ∷ xs) (y ∷ ys) e =
+    let parts = and-eq-true-iff (eqb x y) (same xs ys) .0 e in
+    ap₂ _∷_ (eqb-true x y (parts .0)) (same-eq xs ys (parts .1))
+
+pub same-long : (xs ys : List ℕ) → (length xs ≡ length ys → ⊥) → same xs ys ≡ false
+same-long xs ys ne =
+    ⊎-elim (λ (t : same xs ys ≡ true). absurd (ne (ap length (same-eq xs ys t)))) (λ (f : same xs ys ≡ false). f) (by-test (same xs ys))
+
+pub same-append : (xs ys us vs : List ℕ) → length xs ≡ length ys → same (xs ++ us) (ys ++ vs) ≡ (same xs ys && same us vs)
+unfolding same
+same-append [] [] us vs e = refl
+same-append [] (y ∷ ys) us vs e = absurd (suc-ne-zero (length ys) (sym e))
+same-append (x ∷ xs) [] us vs e = absurd (suc-ne-zero (length xs) e)
+same-append (x ∷ xs) (y ∷ ys) us vs e =
+    let rest : length xs ≡ length ys = omega (arith, e) in
+    ap (λ (t : Bool). eqb x y && t) (same-append xs ys us vs rest) ∙ sym (and-assoc (eqb x y) (same xs ys) (same us vs))
+
+pub same-none : (xs ys : List ℕ) → same (take 0 xs) (take 0 ys) ≡ true
+unfolding same
+same-none xs ys = refl
+
+pub same-step : (xs ys : List ℕ) (i : ℕ) → i < length xs → i < length ys
+    → same (take (i + 1) xs) (take (i + 1) ys) ≡ (same (take i xs) (take i ys) && eqb (getD xs i 0) (getD ys i 0))
+unfolding same
+same-step xs ys i h k =
+    let long : length (take i xs) ≡ length (take i ys) = omega (arith, length-take-le i xs (omega arith), length-take-le i ys (omega arith)) in
+    rw (add-one, take-suc xs i 0 h, take-suc ys i 0 k)
+    (same-append (take i xs) (take i ys) (getD xs i 0 ∷ []) (getD ys i 0 ∷ []) long
+    ∙ ap (λ (t : Bool). same (take i xs) (take i ys) && t) (and-true (eqb (getD xs i 0) (getD ys i 0))))
+
+pub same-all : (xs ys : List ℕ) (n : ℕ) → length xs ≤ n → length ys ≤ n → same xs ys ≡ same (take n xs) (take n ys)
+same-all xs ys n h k = ap₂ same (sym (take-all n xs h)) (sym (take-all n ys k))

@@ -1,6 +1,7 @@
 -- Tests: what a Bool tells.
 --
 --   by-test                   a test is true or false
+--   tests-alike               two tests that imply each other
 --   and-left, and-right       the parts of a conjunction that passed
 --   both                      a conjunction from its parts
 --   or-left, or-right         the parts of a disjunction that failed
@@ -21,6 +22,11 @@ use borrow.Author.Tests.{eqb-true, eq-eqb, leb-true, leb-false, lt-ltb, le-ltb, 
 pub by-test : (t : Bool) → (t ≡ true) ⊎ (t ≡ false)
 by-test true = inl refl
 by-test false = inr refl
+
+pub tests-alike : (a b : Bool) → (a ≡ true → b ≡ true) → (b ≡ true → a ≡ true) → a ≡ b
+tests-alike true b f g = sym (f refl)
+tests-alike false true f g = g refl
+tests-alike false false f g = refl
 
 pub and-left : (a b : Bool) → T (a && b) → T a
 and-left true b t = tt

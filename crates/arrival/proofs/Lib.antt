@@ -1,3 +1,4 @@
 -- Laws of arrivals.
+pub mod Examples
 pub mod Outcomes
 pub mod Blocks

@@ -1,25 +1,28 @@
 -- What an arrival returns and leaves, by its tests.
 --
 --   message-numbered   every test of a message has a number
+--   told-message, told-answer, told-again  a test of the message tells the number; or 22 or 12 does; or the last test, 23
 --   refused            a message is refused by a number that is not 0: the store stays
---   taken              it is taken: the host's block is written, and its bit is set
---   told-message, told-answer  a test of the message tells the number, or the last tests do
+--   taken              a message of a host not heard is taken: the host's block is written, and its bit is set
+--   again              a message of a host heard is in already or gets 23: the store stays
 --   by-plan, by-state  an arrival is refused by the plan, or by a test of the hosts heard and the store
 --   passed-on          both have passed: the message decides
 --   exact              the store has the length of the job's
 --   Passed, passed     what the tests of a message tell, once they have passed
 --   index-below        the host's index is one of those of the job
-use mathlib.Core.Path.{_≡_, sym, ap, ap₂, _∙_}
-use mathlib.Core.Bool.{false, _||_}
-use mathlib.Core.List.{List, _++_}
+use mathlib.Core.Path.{_≡_, refl, sym, ap, ap₂, _∙_}
+use mathlib.Core.Bool.{Bool, true, false, cond, not, _&&_, _||_}
+use mathlib.Core.Logic.{⊎-elim}
+use mathlib.Core.List.{List, [], _∷_, _++_}
 use Prim.Native.Nat.{ℕ, _+_, _*_, _<_, _≤_}
+use native.Mathlib.Nat.{suc-ne-zero}
 use native.Mathlib.Omega.{arith}
 use lib.Dec.{T}
 use lib.ListN.{length}
 use borrow.Author.Tests.{ltb-false}
-use Rattle.algebra.proofs.Tests.{or-left, or-right, equal}
+use Rattle.algebra.proofs.Tests.{by-test, or-left, or-right, equal}
 use Rattle.refusal.specs.Chain.{Test, first, outcome, unlessRefused, differs}
-use Rattle.refusal.proofs.Chains.{first-clear, first-append, first-append-hit, outcome-done, unless-done, unless-refused, numbered}
+use Rattle.refusal.proofs.Chains.{first-none, first-hit, first-miss, first-clear, first-append, first-append-hit, outcome-done, unless-done, unless-refused, numbered}
 use Rattle.plan.specs.declared.Job.{Job}
 use Rattle.plan.specs.declared.Planned.the-variants.{Refused as Planned·Refused}
 use Rattle.plan.specs.Planning.{blockRows, blockColumns, planTests, planned}
@@ -32,8 +35,9 @@ use Rattle.message.specs.Format.{elements, messageTests}
 use Rattle.message.proofs.Fields.{readable}
 use Rattle.arrival_heard.specs.Heard.{isHeard, withHost}
 use Rattle.arrival.specs.declared.Arrived.{Arrived}
-use Rattle.arrival.specs.declared.Arrived.the-variants.{Taken, Refused}
-use Rattle.arrival.specs.Arriving.{answerLength, storeLength, withBlock, hostIndex, foreign, stateTests, answerTests, arrivalTests, arrived, storeAfter}
+use Rattle.arrival.specs.declared.Arrived.the-variants.{Taken, AlreadyIn, Refused}
+use Rattle.arrival.specs.Arriving.{answerLength, storeLength, withBlock, hostIndex, foreign, repeated, stateTests, answerTests, againTests}
+use Rattle.arrival.specs.Arriving.{arrivalTests, entered, storeEntered, arrived, storeAfter}
 use Rattle.arrival.specs.Contracts.{receivedTests, received, storeReceived}
 
 pub message-numbered : (message : List ℕ) → T (numbered (messageTests message))
@@ -48,35 +52,75 @@ by-number tests next after store n ne e =
 
 -- ---- a message
 
-module _ (job : Job) (heard : ℕ) (message : List ℕ) where
-  pub told-message : (n : ℕ) → (n ≡ 0 → ⊥) → first (messageTests message) ≡ n → first (receivedTests job heard message) ≡ n
+module _ (job : Job) (heard : ℕ) (store message : List ℕ) where
+  pub told-message : (n : ℕ) → (n ≡ 0 → ⊥) → first (messageTests message) ≡ n → first (receivedTests job heard store message) ≡ n
   unfolding receivedTests
   told-message n ne e = first-append-hit (messageTests message) _ n ne e
 
-  pub told-answer : first (messageTests message) ≡ 0 → first (receivedTests job heard message) ≡ first (answerTests job heard (headerOf message))
-  unfolding receivedTests
-  told-answer e = first-append (messageTests message) _ (message-numbered message) e
+  module _ (read : first (messageTests message) ≡ 0) where
+    past-message : first (receivedTests job heard store message)
+        ≡ first (answerTests job (headerOf message) ++ againTests (answerLength job) heard store message)
+    unfolding receivedTests
+    past-message = first-append (messageTests message) _ (message-numbered message) read
 
-  module _ (store : List ℕ) where
-    pub refused : (n : ℕ) → (n ≡ 0 → ⊥) → first (receivedTests job heard message) ≡ n
-        → (Refused n ≡ received job heard message) × (store ≡ storeReceived job heard store message)
-    unfolding received storeReceived
-    refused = by-number (receivedTests job heard message) _ _ store
+    pub told-answer : (n : ℕ) → (n ≡ 0 → ⊥) → first (answerTests job (headerOf message)) ≡ n → first (receivedTests job heard store message) ≡ n
+    told-answer n ne e = past-message ∙ first-append-hit (answerTests job (headerOf message)) _ n ne e
 
-    pub taken : {next : ℕ} {after : List ℕ} → first (receivedTests job heard message) ≡ 0 → next ≡ withHost heard (hostIndex (headerOf message))
+    pub told-again : first (answerTests job (headerOf message)) ≡ 0
+        → first (receivedTests job heard store message) ≡ first (againTests (answerLength job) heard store message)
+    unfolding answerTests numbered
+    told-again e = past-message ∙ first-append (answerTests job (headerOf message)) _ tt e
+
+  pub refused : (n : ℕ) → (n ≡ 0 → ⊥) → first (receivedTests job heard store message) ≡ n
+      → (Refused n ≡ received job heard store message) × (store ≡ storeReceived job heard store message)
+  unfolding received storeReceived
+  refused = by-number (receivedTests job heard store message) _ _ store
+
+  -- where the last test decides
+  module _ (last : first (receivedTests job heard store message) ≡ first (againTests (answerLength job) heard store message)) where
+    pub taken : {next : ℕ} {after : List ℕ} → isHeard heard (hostIndex (headerOf message)) ≡ false
+        → next ≡ withHost heard (hostIndex (headerOf message))
         → after ≡ withBlock (answerLength job) store (hostIndex (headerOf message)) (elements message)
-        → (Taken next ≡ received job heard message) × (after ≡ storeReceived job heard store message)
-    unfolding received storeReceived
-    taken e bit block =
-        (ap Taken bit ∙ sym (outcome-done _ Refused _ e), block ∙ sym (unless-done (receivedTests job heard message) _ store e))
+        → (Taken next ≡ received job heard store message) × (after ≡ storeReceived job heard store message)
+    unfolding received storeReceived againTests entered storeEntered
+    taken new bit block =
+        let i = hostIndex (headerOf message) in
+        let passed = last ∙ first-miss _ 23 [] (ap (λ (t : Bool). t && not (repeated (answerLength job) store message)) new) ∙ first-none in (
+          ap Taken bit ∙ sym (ap (λ (t : Bool). cond t AlreadyIn (Taken (withHost heard i))) new) ∙ sym (outcome-done _ Refused _ passed),
+          block
+              ∙ sym (ap (λ (t : Bool). cond t store (withBlock (answerLength job) store i (elements message))) new)
+              ∙ sym (unless-done (receivedTests job heard store message) _ store passed),
+        )
+
+    pub again : {r : Arrived} → isHeard heard (hostIndex (headerOf message)) ≡ true
+        → r ≡ cond (repeated (answerLength job) store message) AlreadyIn (Refused 23)
+        → (r ≡ received job heard store message) × (store ≡ storeReceived job heard store message)
+    unfolding received storeReceived againTests entered storeEntered
+    again {r} old is =
+        let i = hostIndex (headerOf message) in
+        let told : (t : Bool) → repeated (answerLength job) store message ≡ t → first (receivedTests job heard store message) ≡ first ((not t, 23) ∷ [])
+        = λ t e. last ∙ ap₂ (λ (a b : Bool). first ((a && not b, 23) ∷ [])) old e in
+        let is-by : (t : Bool) → repeated (answerLength job) store message ≡ t → r ≡ cond t AlreadyIn (Refused 23)
+        = λ t e. is ∙ ap (λ (t : Bool). cond t AlreadyIn (Refused 23)) e in
+        ⊎-elim
+        (λ (e : repeated (answerLength job) store message ≡ true).
+        let passed = told true e ∙ first-miss false 23 [] refl ∙ first-none in (
+          is-by true e ∙ sym (ap (λ (t : Bool). cond t AlreadyIn (Taken (withHost heard i))) old) ∙ sym (outcome-done _ Refused _ passed),
+          sym (ap (λ (t : Bool). cond t store (withBlock (answerLength job) store i (elements message))) old)
+              ∙ sym (unless-done (receivedTests job heard store message) _ store passed),
+        ))
+        (λ (e : repeated (answerLength job) store message ≡ false).
+        let out = refused 23 (suc-ne-zero 22) (told false e ∙ first-hit true 23 [] refl) in
+        (is-by false e ∙ out .0, out .1))
+        (by-test (repeated (answerLength job) store message))
 
 -- ---- an arrival
 
 module _ (job : Job) (points : List ℕ) (heard : ℕ) (store message : List ℕ) where
-  turned-down : (n : ℕ) → (n ≡ 0 → ⊥) → first (arrivalTests job points heard (length store) message) ≡ n
+  turned-down : (n : ℕ) → (n ≡ 0 → ⊥) → first (arrivalTests job points heard store message) ≡ n
       → (Refused n ≡ arrived job points heard store message) × (store ≡ storeAfter job points heard store message)
   unfolding arrived storeAfter
-  turned-down = by-number (arrivalTests job points heard (length store) message) _ _ store
+  turned-down = by-number (arrivalTests job points heard store message) _ _ store
 
   pub by-plan : {n : ℕ} → planned job points ≡ Planned·Refused n
       → (Refused n ≡ arrived job points heard store message) × (store ≡ storeAfter job points heard store message)
@@ -84,7 +128,7 @@ module _ (job : Job) (points : List ℕ) (heard : ℕ) (store message : List ℕ
   by-plan e = let told = then-refused job points _ e in turned-down _ (told .1) (told .0)
 
   module _ (plan : first (planTests job points) ≡ 0) where
-    past-plan : first (arrivalTests job points heard (length store) message) ≡ first (stateTests job heard (length store) ++ receivedTests job heard message)
+    past-plan : first (arrivalTests job points heard store message) ≡ first (stateTests job heard (length store) ++ receivedTests job heard store message)
     unfolding arrivalTests receivedTests
     past-plan = then-own job points _ plan
 
@@ -93,11 +137,11 @@ module _ (job : Job) (points : List ℕ) (heard : ℕ) (store message : List ℕ
     by-state n ne e = turned-down n ne (past-plan ∙ first-append-hit (stateTests job heard (length store)) _ n ne e)
 
     pub passed-on : first (stateTests job heard (length store)) ≡ 0
-        → (received job heard message ≡ arrived job points heard store message)
+        → (received job heard store message ≡ arrived job points heard store message)
         × (storeReceived job heard store message ≡ storeAfter job points heard store message)
     unfolding stateTests numbered received storeReceived arrived storeAfter unlessRefused
     passed-on state =
-        let same = past-plan ∙ first-append (stateTests job heard (length store)) (receivedTests job heard message) tt state in
+        let same = past-plan ∙ first-append (stateTests job heard (length store)) (receivedTests job heard store message) tt state in
         (rw same, rw same)
 
 -- ---- what the tests tell
@@ -115,22 +159,20 @@ sizes job h e =
     let rest = differs (h .kind) 3 || differs (h .number) (job .number) || differs (h .modulus) (job .modulus) in
     (equal _ _ (or-right rest rows (or-left (rest || rows) columns e)), equal _ _ (or-right (rest || rows) columns e))
 
-module _ (job : Job) (heard : ℕ) (message : List ℕ) where
+module _ (job : Job) (message : List ℕ) where
   pub record Passed : Type 0 where
     pub count : elementCount (headerOf message) ≡ answerLength job
     pub whole : length message ≡ 16 + 4 * answerLength job
     pub low : 1 ≤ headerOf message .host
     pub high : headerOf message .host ≤ job .hosts
-    pub new : isHeard heard (hostIndex (headerOf message)) ≡ false
 
-  pub passed : first (messageTests message) ≡ 0 → first (answerTests job heard (headerOf message)) ≡ 0 → Passed
+  pub passed : first (messageTests message) ≡ 0 → first (answerTests job (headerOf message)) ≡ 0 → Passed
   unfolding answerTests elementCount answerLength
   passed read answer =
       let h = headerOf message in
       let r = readable message read in
       let ours = first-clear _ 21 _ answer in
       let host = first-clear _ 11 _ (ours .1) in
-      let new = first-clear _ 22 _ (host .1) in
       let size = sizes job h (ours .0) in
       let count : h .rows * h .columns ≡ blockRows job * blockColumns job = ap₂ _*_ (size .0) (size .1) in
       record {
@@ -138,7 +180,6 @@ module _ (job : Job) (heard : ℕ) (message : List ℕ) where
         whole = omega (arith, r .whole, count);
         low = ranged h (r .head .fields) .host-low;
         high = ltb-false (job .hosts) (h .host) (host .0);
-        new = new .0;
       }
 
   pub index-below : Passed → hostIndex (headerOf message) < job .hosts

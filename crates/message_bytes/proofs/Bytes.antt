@@ -11,15 +11,18 @@
 --   bytesOf-bytes               each of them is below 256
 --   elements-of-bytes           elements read back from their bytes
 --   bytes-of-elements           bytes come back from the elements that they hold
+--   same-elements               whether bytes are those of some elements, by the elements that they hold
 use mathlib.Core.Path.{_≡_, refl, sym, ap, ap₂, _∙_}
+use mathlib.Core.Bool.{true}
 use mathlib.Core.List.{List, [], _∷_, _++_, append-assoc, append-nil}
 use Prim.Native.Nat.{ℕ, zero, suc, _+_, _*_, _/_, _%_, _^_, _<_, _≤_}
 use native.Mathlib.Nat.{le-of-suc-le-suc, not-suc-le-zero, pow-suc}
 use native.Mathlib.Omega.{arith}
 use lib.ListN.{length, getD, take, drop, length-append, length-drop, List·getD-append}
 use lib.Seq.{getD-append-add, getD-at, take-add, take-suc, take-all, getD-drop, ext-getD}
-use Rattle.algebra.specs.Lists.{tab, AllBelow}
-use Rattle.algebra.proofs.Lists.{length-tab, getD-tab, below-append}
+use Rattle.algebra.specs.Lists.{tab, AllBelow, same}
+use Rattle.algebra.proofs.Lists.{length-tab, getD-tab, below-append, same-refl, same-eq}
+use Rattle.algebra.proofs.Tests.{tests-alike}
 use Rattle.message_bytes.specs.Bytes.{bigEndian, numberAt, bytesOf, elementsOf}
 
 pub length-bigEndian : (width x : ℕ) → length (bigEndian width x) ≡ width
@@ -133,3 +136,12 @@ first-elements (suc n) bytes b h =
 
 pub bytes-of-elements : (n : ℕ) (bytes : List ℕ) → AllBelow 256 bytes → length bytes ≡ 4 * n → bytesOf (elementsOf n bytes) ≡ bytes
 bytes-of-elements n bytes b e = first-elements n bytes b (omega arith) ∙ take-all (n * 4) bytes (omega arith)
+
+pub same-elements : (bytes xs : List ℕ) → AllBelow 256 bytes → AllBelow (2 ^ 32) xs → length bytes ≡ 4 * length xs
+    → same bytes (bytesOf xs) ≡ same (elementsOf (length xs) bytes) xs
+same-elements bytes xs b small whole =
+    tests-alike (same bytes (bytesOf xs)) (same (elementsOf (length xs) bytes) xs)
+    (λ (t : same bytes (bytesOf xs) ≡ true).
+    ap (λ (l : List ℕ). same l xs) (ap (elementsOf (length xs)) (same-eq bytes (bytesOf xs) t) ∙ elements-of-bytes xs small) ∙ same-refl xs)
+    (λ (t : same (elementsOf (length xs) bytes) xs ≡ true).
+    ap (same bytes) (sym (ap bytesOf (same-eq (elementsOf (length xs) bytes) xs t)) ∙ bytes-of-elements (length xs) bytes b whole) ∙ same-refl bytes)

@@ -89,10 +89,7 @@ pub fn bytes_below(modulus: Modulus, bytes: &[u8]) -> bool
 pub fn same_bytes(bytes: &[u8], xs: &[u32]) -> bool
     ensures { λ r. ⌜ r ≡ same (now (bytes .entry)) (bytesOf (now (xs .entry))) ⌝ }
 {
-    if bytes.len() / 4 != xs.len() {
-        return false;
-    }
-    if bytes.len() % 4 != 0 {
+    if bytes.len() != xs.len() * 4 {
         return false;
     }
     let mut equal = true;

@@ -1,7 +1,9 @@
 -- `arrival::take_message` meets its contract.
 use mathlib.Core.Path.{_≡_, sym, ap, ap₂, _∙_}
+use mathlib.Core.Bool.{false, cond}
 use Prim.Native.Nat.{ℕ, _+_, _-_, _*_, _^_, _%_, _<_, _≤_}
 use native.Mathlib.Omega.{arith}
+use lib.ListN.{length}
 use borrow.Author.Needs.{needs}
 use Rattle.algebra.proofs.Orders.{row-end}
 use Rattle.refusal.specs.Chain.{first}
@@ -11,11 +13,12 @@ use Rattle.message_header.proofs.Fields.{ranged}
 use Rattle.message.specs.Format.{elements, messageTests, examined}
 use Rattle.message.proofs.Fields.{readable}
 use Rattle.message.proofs.Outcomes.{fields-told, refused-told}
-use Rattle.arrival_heard.specs.Heard.{withHost}
+use Rattle.arrival_heard.specs.Heard.{isHeard, withHost}
 use Rattle.arrival_heard.proofs.Bits.{bit-of, with-below}
-use Rattle.arrival.specs.Arriving.{answerLength, storeLength, hostIndex, withBlock, answerTests}
+use Rattle.arrival.specs.declared.Arrived.the-variants.{AlreadyIn, Refused}
+use Rattle.arrival.specs.Arriving.{answerLength, storeLength, withBlock, hostIndex, repeated, answerTests, againTests}
 use Rattle.arrival.specs.Contracts.{receivedTests}
-use Rattle.arrival.proofs.Outcomes.{Passed, passed, index-below, refused, taken, told-message, told-answer}
+use Rattle.arrival.proofs.Outcomes.{Passed, passed, index-below, refused, taken, again, told-message, told-answer, told-again}
 use Rattle.arrival.proofs.take_message.Statement.{statement}
 use Rattle.arrival.proofs.take_message.Tie as tie
 
@@ -53,36 +56,39 @@ unfolding hostIndex
 index-is r = ap hostIndex (read r .1)
 
 answer-refusal-requires : tie.Need-answer-refusal-requires
-answer-refusal-requires c κs = let s = begin (c .before) in (s .pre .0, s .pre .1, low (c .before))
+answer-refusal-requires c κs = let s = begin (c .before) in (s .pre .0, s .pre .1)
 
 -- ---- the message beside the job
 
--- the last tests decide
-answer-told : (o : tie.After-answer-refusal) → first (answerTests (begin (o .before .before) .args .job) (begin (o .before .before) .args .heard) (headerOf (begin (o .before .before) .args .message .now)))
+-- 22 and 12
+answer-told : (o : tie.After-answer-refusal) → first (answerTests (begin (o .before .before) .args .job) (headerOf (begin (o .before .before) .args .message .now)))
     ≡ o .answer-refusal .result
 answer-told o =
     let r = o .before .before in
-    ap (λ (h : Header). first (answerTests (begin r .args .job) (begin r .args .heard) h)) (sym (read r .1)) ∙ sym (o .answer-refusal .ensures)
-
-number : (o : tie.After-answer-refusal) → first (receivedTests (begin (o .before .before) .args .job) (begin (o .before .before) .args .heard) (begin (o .before .before) .args .message .now))
-    ≡ o .answer-refusal .result
-number o = told-answer _ _ _ (read (o .before .before) .0) ∙ answer-told o
+    ap (λ (h : Header). first (answerTests (begin r .args .job) h)) (sym (read r .1)) ∙ sym (o .answer-refusal .ensures)
 
 returns : tie.Need-returns
-returns c = refused _ _ _ _ _ (c .if1 .taken) (number (c .before))
+returns c =
+    let o = c .before in
+    refused _ _ _ _ _ (c .if1 .taken) (told-answer _ _ _ _ (read (o .before .before) .0) _ (c .if1 .taken) (answer-told o))
 
--- ---- the message is taken
+-- ---- the message is fit
 
 -- where the tests have passed, and what they tell
 abbrev parsed-of : tie.Else1 → tie.After-parsed2
 parsed-of e = e .before .before .before
 
-all-passed : (e : tie.Else1) → Passed (begin (parsed-of e) .args .job) (begin (parsed-of e) .args .heard) (begin (parsed-of e) .args .message .now)
-all-passed e = passed _ _ _ (read (parsed-of e) .0) (answer-told (e .before) ∙ e .if1 .left)
+all-passed : (e : tie.Else1) → Passed (begin (parsed-of e) .args .job) (begin (parsed-of e) .args .message .now)
+all-passed e = passed _ _ (read (parsed-of e) .0) (answer-told (e .before) ∙ e .if1 .left)
+
+-- 23 decides
+last : (e : tie.Else1) → first (receivedTests (begin (parsed-of e) .args .job) (begin (parsed-of e) .args .heard) (begin (parsed-of e) .args .store .now) (begin (parsed-of e) .args .message .now))
+    ≡ first (againTests (answerLength (begin (parsed-of e) .args .job)) (begin (parsed-of e) .args .heard) (begin (parsed-of e) .args .store .now) (begin (parsed-of e) .args .message .now))
+last e = told-again _ _ _ _ (read (parsed-of e) .0) (answer-told (e .before) ∙ e .if1 .left)
 
 -- the index is one of the job's, and so one of 64
 below : (e : tie.Else1) → parsed-of e .parsed2 .given .0 .0 .host - 1 < begin (parsed-of e) .args .job .hosts
-below e = omega (arith, index-is (parsed-of e), index-below _ _ _ (all-passed e))
+below e = omega (arith, index-is (parsed-of e), index-below _ _ (all-passed e))
 
 inside : (e : tie.Else1) → parsed-of e .parsed2 .given .0 .0 .host - 1 < 64
 inside e = omega (arith, below e, begin (parsed-of e) .pre .3)
@@ -96,25 +102,63 @@ mul-size c = let small = begin (parsed-of (c .before)) .pre .2 in omega (arith, 
 cast-size : tie.Need-cast-size
 cast-size c = search needs
 
+whole : (e : tie.Else1) → length (begin (parsed-of e) .args .message .now) ≡ 16 + 4 * (begin (parsed-of e) .args .rows * begin (parsed-of e) .args .columns)
+whole e = omega (arith, all-passed e .whole, size-is (begin (parsed-of e)))
+
+-- the host's block is one of the store
+lies : (e : tie.Else1) → (parsed-of e .parsed2 .given .0 .0 .host - 1) * (begin (parsed-of e) .args .rows * begin (parsed-of e) .args .columns) + begin (parsed-of e) .args .rows * begin (parsed-of e) .args .columns
+    ≤ length (begin (parsed-of e) .args .store .now)
+unfolding storeLength
+lies e =
+    let s = begin (parsed-of e) in
+    let room = s .pre .4 ∙ ap (λ (n : ℕ). s .args .job .hosts * n) (sym (size-is s)) in
+    omega (arith, row-end (s .args .rows * s .args .columns) (below e), room)
+
+is-heard-requires : tie.Need-is-heard-requires
+is-heard-requires c κs = search needs
+
+heard-told : (h : tie.After-is-heard) → h .is-heard .result ≡ isHeard (begin (parsed-of (h .before .before)) .args .heard) (hostIndex (headerOf (begin (parsed-of (h .before .before)) .args .message .now)))
+heard-told h = let r = parsed-of (h .before .before) in h .is-heard .ensures ∙ ap (isHeard (begin r .args .heard)) (index-is r)
+
+-- ---- its host is heard
+
+cast-heard-again : tie.Need-cast-heard-again
+cast-heard-again c = search needs
+
+heard-again-requires : tie.Need-heard-again-requires
+heard-again-requires c κs = let e = c .before .before .before .before in (index-is (parsed-of e), whole e, lies e)
+
+same-length : tie.Need-same-length
+same-length c = search needs
+
+returns-2 : tie.Need-returns-2
+returns-2 c =
+    let t = c .before .before in
+    let e = t .before .before .before in
+    let s = begin (parsed-of e) in
+    let a = s .args in
+    again _ _ _ _ (last e) (sym (heard-told (t .before)) ∙ t .if2 .taken)
+    (c .heard-again .ensures ∙ ap (λ (n : ℕ). cond (repeated n (a .store .now) (a .message .now)) AlreadyIn (Refused 23)) (size-is s))
+
+-- ---- its host is not heard: it is taken
+
 cast-put-block : tie.Need-cast-put-block
 cast-put-block c = search needs
 
 put-block-requires : tie.Need-put-block-requires
-unfolding storeLength
 put-block-requires c κs =
-    let e = c .before .before in
-    let s = begin (parsed-of e) in
-    let t = all-passed e in
-    let size = s .args .rows * s .args .columns in
-    let room = s .pre .4 ∙ ap (λ (n : ℕ). s .args .job .hosts * n) (sym (size-is s)) in
-    (t .count ∙ sym (size-is s), omega (arith, t .whole, size-is s), omega (arith, row-end size (below e), room))
+    let e = c .before .before .before .before in
+    (all-passed e .count ∙ sym (size-is (begin (parsed-of e))), whole e, lies e)
 
 cast-bit : tie.Need-cast-bit
 cast-bit c = search needs
 
 -- where the tests had passed
 abbrev clear : tie.After-slice-known2 → tie.Else1
-clear c = c .before .before .before .before .before
+clear c = c .before .before .before .before .before .before .before
+
+new : (h : tie.Else2) → isHeard (begin (parsed-of (h .before .before .before)) .args .heard) (hostIndex (headerOf (begin (parsed-of (h .before .before .before)) .args .message .now))) ≡ false
+new h = sym (heard-told (h .before)) ∙ h .if2 .left
 
 -- the hosts heard then
 bit : (e : tie.Else1) → begin (parsed-of e) .args .heard + 1 * 2 ^ (parsed-of e .parsed2 .given .0 .0 .host - 1) % 2 ^ 64
@@ -135,25 +179,25 @@ add-after c =
     let i = hostIndex (headerOf (s .args .message .now)) in
     let there : i < 64 = omega (arith, index-is r, inside e) in
     let room : s .args .heard < 2 ^ 64 = omega (arith, s .fits) in
-    let next : withHost (s .args .heard) i < 2 ^ 64 = with-below (s .args .heard) i (all-passed e .new) 64 room there in
+    let next : withHost (s .args .heard) i < 2 ^ 64 = with-below (s .args .heard) i (new (c .before .before .before .before)) 64 room there in
     omega (arith, bit e, next)
 
-returns-2 : tie.Need-returns-2
+returns-3 : tie.Need-returns-3
 unfolding examined
-returns-2 c =
+returns-3 c =
     let r = c .before in
     let told = refused-told _ _ (sym (r .before .before .examine .ensures) ∙ r .parsed .given .1) in
-    refused _ _ _ _ _ (told .1) (told-message _ _ _ _ (told .1) (told .0))
+    refused _ _ _ _ _ (told .1) (told-message _ _ _ _ _ (told .1) (told .0))
 
-same-length : tie.Need-same-length
-same-length c = search needs
+same-length-2 : tie.Need-same-length-2
+same-length-2 c = search needs
 
-returns-3 : tie.Need-returns-3
-returns-3 c =
+returns-4 : tie.Need-returns-4
+returns-4 c =
     let e = clear c in
     let r = parsed-of e in
     let a = begin r .args in
-    taken (a .job) (a .heard) (a .message .now) (a .store .now) (number (e .before) ∙ e .if1 .left) (bit e)
+    taken (a .job) (a .heard) (a .store .now) (a .message .now) (last e) (new (c .before .before .before .before)) (bit e)
     (c .before .before .put-block .ensures
     ∙ ap₂ (λ (n i : ℕ). withBlock n (a .store .now) i (elements (a .message .now))) (size-is (begin r)) (index-is r))
 
@@ -169,11 +213,16 @@ take-message-spec =
     sub-index
     mul-size
     cast-size
+    is-heard-requires
+    cast-heard-again
+    heard-again-requires
+    same-length
+    returns-2
     cast-put-block
     put-block-requires
     cast-bit
     shl-bit
     add-after
-    returns-2
-    same-length
-    returns-3)
+    returns-3
+    same-length-2
+    returns-4)
