@@ -3,7 +3,7 @@
 use crate::calls::{Calls, Plain};
 use crate::library::Library;
 use crate::random::Random;
-use crate::work::{header, prime, run, Room, Shape, Work};
+use crate::work::{header, prime, run, take, Room, Shape, Work};
 use plain::plan::Job;
 use plain::share::Matrix;
 
@@ -41,7 +41,8 @@ fn draw(random: &mut Random, modulus: u32) -> Work {
     }
 }
 
-/// Runs a whole job by both: both have its table.
+/// Runs a whole job by both: both have its table. Then both take the last host's answer, which may be in
+/// already, and once more.
 fn whole(work: &Work) -> Room {
     let (mut room, mut other) = (Room::new(work), Room::new(work));
     assert_eq!(run(&Library, work, &mut room), Ok(()));
@@ -51,6 +52,11 @@ fn whole(work: &Work) -> Room {
         room.table == work.true_table(),
         "the table is not A times B"
     );
+    for _ in 0..2 {
+        assert_eq!(take(&Library, work, &mut room), Ok(()));
+        assert_eq!(take(&Plain, work, &mut other), Ok(()));
+        assert!(room == other, "two arrivals differ");
+    }
     room
 }
 

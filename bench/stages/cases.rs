@@ -39,6 +39,7 @@ pub fn every_stage() -> Vec<Row> {
         Stage::Write,
         Stage::Read,
         Stage::Arrival,
+        Stage::Repeated,
         Stage::Decoding,
         Stage::Whole,
     ];
@@ -95,6 +96,7 @@ fn by_block() -> Table {
         Stage::Share,
         Stage::Product,
         Stage::Arrival,
+        Stage::Repeated,
         Stage::Decoding,
         Stage::Whole,
     ];

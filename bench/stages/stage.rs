@@ -16,6 +16,7 @@ pub enum Stage {
     Write,
     Read,
     Arrival,
+    Repeated,
     Decoding,
     Whole,
 }
@@ -30,10 +31,19 @@ impl Stage {
             Stage::Write => "message written",
             Stage::Read => "message read",
             Stage::Arrival => "arrival",
+            Stage::Repeated => "arrival repeated",
             Stage::Decoding => "decoding",
             Stage::Whole => "whole job",
         }
     }
+}
+
+/// Lets the last host's answer arrive.
+fn arrive(calls: &impl Calls, work: &Work, heard: u64, room: &mut Room) -> Result<(), u32> {
+    let Work { job, points, .. } = black_box(work);
+    let after = calls.arrive(job, points, heard, &mut room.store, &room.answer_message)?;
+    black_box(after);
+    Ok(())
 }
 
 /// Makes a stage once, in the buffers of a job that has been run.
@@ -65,21 +75,18 @@ fn make(stage: Stage, calls: &impl Calls, work: &Work, room: &mut Room) -> Resul
             calls.write(&fields, &room.shares[0], &mut room.messages[0])
         }
         Stage::Read => calls.read(&room.messages[0], &mut room.blocks[0]),
-        Stage::Arrival => {
-            let taken = calls.arrive(job, points, 0, &mut room.store, &room.answer_message);
-            taken.map(|heard| {
-                black_box(heard);
-            })
-        }
+        Stage::Arrival => arrive(calls, work, 0, room),
+        Stage::Repeated => arrive(calls, work, 1 << (job.hosts - 1), room),
         Stage::Decoding => calls.decode(job, points, room.heard, &room.store, &mut room.table),
         Stage::Whole => run(calls, work, room),
     }
 }
 
-/// A contestant's buffers after the whole job has been run.
+/// A contestant's buffers after the whole job has been run, and the last host's answer is in the store.
 fn after_run(calls: &impl Calls, work: &Work) -> Room {
     let mut room = Room::new(work);
     run(calls, work, &mut room).expect("the job is run");
+    arrive(calls, work, 0, &mut room).expect("the answer is taken");
     room
 }
 

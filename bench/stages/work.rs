@@ -205,8 +205,8 @@ fn serve(calls: &impl Calls, work: &Work, host: u32, room: &mut Room) -> Result<
     calls.write(&header, &room.answer, &mut room.answer_message)
 }
 
-/// Takes the answer of a host.
-fn take(calls: &impl Calls, work: &Work, room: &mut Room) -> Result<(), u32> {
+/// Takes the answer of a host, or has it in already.
+pub fn take(calls: &impl Calls, work: &Work, room: &mut Room) -> Result<(), u32> {
     room.heard = calls.arrive(
         &work.job,
         &work.points,

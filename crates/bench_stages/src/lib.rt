@@ -186,6 +186,7 @@ pub extern "C" fn stages_arrive(
     let arrived = arrival::arrive(job_of(numbers), points, *heard, store, message);
     match arrived {
         Arrived::Refused(number) => number,
+        Arrived::AlreadyIn => 0,
         Arrived::Taken(after) => {
             *heard = after;
             0

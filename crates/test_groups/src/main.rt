@@ -1,5 +1,6 @@
 // Every group: the sheet's lister job, of 20 hosts with 17 needed, is decoded from each of its 1,140 groups of 17, in three
-// orders of arrival, every answer sent twice, under three sets of masks. Prints one line with the counts.
+// orders of arrival, every answer sent twice and a third time with another element, under three sets of masks. Prints one line
+// with the counts.
 ghost use mathlib.Core.Path.{_≡_};
 ghost use Prim.Native.Nat.{_<_, _≤_};
 ghost use lib.ListN.{length};
@@ -158,28 +159,52 @@ fn answer_all(
     0
 }
 
-// A message of a host that is heard is refused with 23.
-fn refused_again(points: &[u32], heard: u64, store: &mut [u32], message: &[u8]) -> bool {
+// Another byte, 0 or 1.
+fn other_byte(byte: u8) -> u8 {
+    if byte == 0 { 1 } else { 0 }
+}
+
+// A message of a host that is heard, the same as its first, is in already.
+fn is_in_already(points: &[u32], heard: u64, store: &mut [u32], message: &[u8]) -> bool {
     match arrival::arrive(job(), points, heard, store, message) {
-        Arrived::Refused(number) => number == refusal::HEARD,
+        Arrived::Refused(_) => false,
+        Arrived::AlreadyIn => true,
         Arrived::Taken(_) => false,
     }
 }
 
-// Lets a message arrive twice: it must be taken, and then refused with 23. Tells the hosts heard then, or none.
-fn arrive_twice(points: &[u32], heard: u64, store: &mut [u32], message: &[u8]) -> u64 {
+// A message of a host that is heard, with another last element than its first, is refused with 23.
+fn is_refused(points: &[u32], heard: u64, store: &mut [u32], message: &[u8]) -> bool {
+    let mut other = [0u8; MESSAGE];
+    message_bytes::copy_bytes(message, &mut other);
+    other[30] = 0;
+    other[31] = other_byte(other[31]);
+    match arrival::arrive(job(), points, heard, store, &other) {
+        Arrived::Refused(number) => number == refusal::HEARD,
+        Arrived::AlreadyIn => false,
+        Arrived::Taken(_) => false,
+    }
+}
+
+// Lets a message arrive twice, and then with another element: it must be taken, in already, and refused. Tells the hosts heard
+// then, or none.
+fn arrive_thrice(points: &[u32], heard: u64, store: &mut [u32], message: &[u8]) -> u64 {
     match arrival::arrive(job(), points, heard, store, message) {
         Arrived::Refused(_) => 0,
+        Arrived::AlreadyIn => 0,
         Arrived::Taken(after) => {
-            if refused_again(points, after, store, message) {
-                return after;
+            if !is_in_already(points, after, store, message) {
+                return 0;
             }
-            0
+            if !is_refused(points, after, store, message) {
+                return 0;
+            }
+            after
         }
     }
 }
 
-// Lets the message of the host at a index arrive where the host is in the set; tells the hosts heard then.
+// Lets the message of the host at an index arrive where the host is in the set; tells the hosts heard then.
 fn hear(
     set: u64,
     index: usize,
@@ -195,7 +220,7 @@ fn hear(
     }
     let start = index * MESSAGE;
     let end = start + MESSAGE;
-    arrive_twice(points, heard, store, &messages[start..end])
+    arrive_thrice(points, heard, store, &messages[start..end])
 }
 
 // Lets the messages of a set of hosts arrive, from a host on and so many hosts further each time; tells the hosts heard.

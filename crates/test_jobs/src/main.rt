@@ -9,12 +9,19 @@ use plan::Job;
 // The largest case: its points, the elements of the store and of a table, the bytes of a message.
 const MOST_POINTS: usize = 128;
 
-const MOST_ELEMENTS: usize = 4096;
+const MOST_STORE: usize = 12288;
+
+const MOST_TABLE: usize = 4096;
 
 const MOST_BYTES: usize = 20000;
 
 // The words before a case's lists.
 const HEAD_WORDS: usize = 19;
+
+// What tells that an arrival is taken, and that it is in already; a refused one is told by its number.
+const TAKEN: u32 = 0;
+
+const ALREADY_IN: u32 = 100;
 
 // The program ends, however long its input is.
 const MOST_CASES: u32 = 1000000;
@@ -41,11 +48,11 @@ fn heard_of(high: u32, low: u32) -> u64 {
     high as u64 * 0x1_0000_0000 + low as u64
 }
 
-// Writes what an arrival returns: its number, and the hosts heard after it.
-fn put_arrived(number: u32, heard: u64) {
+// Writes what an arrival returns: that it is taken, that it is in already, or its number; and the hosts heard after it.
+fn put_arrived(told: u32, heard: u64) {
     let high = (heard / 0x1_0000_0000) as u32;
     let low = (heard % 0x1_0000_0000) as u32;
-    test_io::put_words(&[number, high, low]);
+    test_io::put_words(&[told, high, low]);
 }
 
 // Room for a message. Of this and the next, lending needs the length alone.
@@ -56,10 +63,10 @@ fn message_room() -> [u8; MOST_BYTES]
 }
 
 // A table before a call.
-fn filled_table() -> [u32; MOST_ELEMENTS]
+fn filled_table() -> [u32; MOST_TABLE]
     ensures { λ r. ⌜ 4096 ≡ length r ⌝ }
 {
-    [test_io::FILLING; MOST_ELEMENTS]
+    [test_io::FILLING; MOST_TABLE]
 }
 
 // Reads a message and lets it arrive; false where the input ends in it, or it is too long.
@@ -74,7 +81,8 @@ fn run_arrival(head: [u32; HEAD_WORDS], points: &[u32], store: &mut [u32]) -> bo
     let heard = heard_of(head[12], head[13]);
     match arrival::arrive(job, points, heard, store, &message[..n]) {
         Arrived::Refused(number) => put_arrived(number, heard),
-        Arrived::Taken(after) => put_arrived(0, after),
+        Arrived::AlreadyIn => put_arrived(ALREADY_IN, heard),
+        Arrived::Taken(after) => put_arrived(TAKEN, after),
     }
     true
 }
@@ -82,7 +90,7 @@ fn run_arrival(head: [u32; HEAD_WORDS], points: &[u32], store: &mut [u32]) -> bo
 // Decodes a table; false where it is too long.
 fn run_decoding(head: [u32; HEAD_WORDS], points: &[u32], store: &[u32]) -> bool {
     let room = head[18] as usize;
-    if MOST_ELEMENTS < room {
+    if MOST_TABLE < room {
         return false;
     }
     let mut table = filled_table();
@@ -155,6 +163,6 @@ fn run_cases(store: &mut [u32]) {
 }
 
 fn main() {
-    let mut store = [0u32; MOST_ELEMENTS];
+    let mut store = [0u32; MOST_STORE];
     run_cases(&mut store);
 }

@@ -37,6 +37,14 @@ fn take_message(turn: Turn, points: &[u32], store: &mut [u32], message: &[u8]) -
             say_turned_down(turn.host, number);
             turn.heard
         }
+        Arrived::AlreadyIn => {
+            say_answer(
+                turn.host,
+                b" already in, heard ",
+                u64::count_ones(turn.heard),
+            );
+            turn.heard
+        }
         Arrived::Taken(heard) => {
             say_answer(turn.host, b" taken, heard ", u64::count_ones(heard));
             heard

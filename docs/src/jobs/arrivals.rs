@@ -1,6 +1,10 @@
 //! Cases of arrivals by themselves, each from hosts heard and a store of its own.
+//!
+//!   expected  all of them
+//!   drawn     an arrival in which nothing is wrong
 
-use super::faults::{limits, spoilt, HEARD, SMALL};
+use super::faults::{heard_before, limits, spoilt, HEARD, SMALL};
+use super::format::ALREADY_IN;
 use crate::calls::damage;
 use crate::calls::messages::FIELDS;
 use crate::cases::faults::{border_elements, Expected, Fault};
@@ -10,10 +14,11 @@ use crate::sheet::plan::Line;
 use crate::sheet::random::Random;
 use crate::sheet::whole_job::{written, WholeJob};
 
-/// All cases whose refusal number is known from the way they are made.
+/// All cases; what is due is known from the way they are made.
 pub fn expected(random: &mut Random) -> Expected<JobCall> {
     let groups = [
         fault_pairs(random),
+        faults_stored(random),
         damaged(random),
         foreign(random),
         lengths(random),
@@ -27,7 +32,7 @@ pub fn expected(random: &mut Random) -> Expected<JobCall> {
 
 /// An arrival at a job with points 1..N: anything is in the store, hosts 1, 2 and 5 are heard, and
 /// the message is a host's true product.
-fn drawn(random: &mut Random, line: Line, host: u32) -> JobCall {
+pub fn drawn(random: &mut Random, line: Line, host: u32) -> JobCall {
     let whole = WholeJob::drawn(random, line, (1..=line[9]).collect());
     let mut call = whole.call(Act::Arrive);
     call.store = random.words(call.store.len());
@@ -37,8 +42,8 @@ fn drawn(random: &mut Random, line: Line, host: u32) -> JobCall {
 }
 
 /// The faults of an arrival of host 3 at `SMALL` that are no faults of its plan, in the order of
-/// the tests.
-const FAULTS: [Fault<JobCall>; 27] = [
+/// the tests; the last, a message that is in already, is none.
+const FAULTS: [Fault<JobCall>; 28] = [
     (21, |call| call.heard |= 1 << 10),
     (21, |call| call.heard = u64::MAX),
     (13, |call| call.store.truncate(79)),
@@ -65,7 +70,11 @@ const FAULTS: [Fault<JobCall>; 27] = [
     (22, |call| call.message[15] ^= 1),
     (12, |call| call.message[7] = 11),
     (12, |call| call.message[7] = 64),
-    (23, |call| call.heard |= 0b100),
+    (23, |call| {
+        heard_before(call);
+        call.store[16] ^= 1;
+    }),
+    (ALREADY_IN, heard_before),
 ];
 
 /// Sets rows and columns in a message.
@@ -74,13 +83,36 @@ fn sizes(call: &mut JobCall, rows: u16, columns: u16) {
     call.message[10..12].copy_from_slice(&columns.to_be_bytes());
 }
 
-/// Each fault alone and in pairs; some element is above 12, so that the message has 14 when its
+/// An arrival of host 3 at `SMALL`; some element is above 12, so that the message has 14 when its
 /// modulus is 13.
+fn third_host(random: &mut Random) -> JobCall {
+    let mut call = drawn(random, SMALL, 3);
+    call.message[30..32].copy_from_slice(&[0, 200]);
+    call
+}
+
+/// Each fault alone and in pairs.
 fn fault_pairs(random: &mut Random) -> Expected<JobCall> {
-    let mut base = drawn(random, SMALL, 3);
-    base.message[30..32].copy_from_slice(&[0, 200]);
+    let base = third_host(random);
     let mut calls = spoilt(&base, &FAULTS);
     calls.push((base, 0));
+    calls
+}
+
+/// Each fault that leaves message and store their lengths and the host one of the job's, and no
+/// fault: the host is heard, and its block holds the elements of that message, faulty ones too.
+fn faults_stored(random: &mut Random) -> Expected<JobCall> {
+    let base = third_host(random);
+    let lengths = |call: &JobCall| (call.message.len(), call.store.len());
+    let mut calls = vec![(base.clone(), ALREADY_IN)];
+    for (due, fault) in FAULTS.into_iter().filter(|fault| fault.0 < 23) {
+        let mut call = base.clone();
+        fault(&mut call);
+        if lengths(&call) == lengths(&base) && (1..=10).contains(&call.message[7]) {
+            calls.push((call, due));
+        }
+    }
+    calls.iter_mut().for_each(|(call, _)| heard_before(call));
     calls
 }
 
@@ -204,16 +236,21 @@ fn elements(random: &mut Random) -> Expected<JobCall> {
     calls
 }
 
-/// Numbers of hosts heard at and beyond N: the lowest host and host N send an answer.
+/// Numbers of hosts heard at and beyond N: the lowest host and host N send an answer, which the
+/// store holds or holds not.
 fn heard_numbers(random: &mut Random) -> Expected<JobCall> {
     let mut calls = Vec::new();
     for (hosts, heard, above) in HEARD {
-        for host in [1, hosts] {
+        for (host, is_stored) in [(1, false), (hosts, false), (1, true), (hosts, true)] {
             let mut call = drawn(random, [2, 1, 1, 1, 1, 1, 1, 1, 1, hosts], host);
+            if is_stored {
+                heard_before(&mut call);
+            }
             call.heard = heard;
             let due = match heard >> (host - 1) & 1 {
                 _ if above => 21,
                 0 => 0,
+                _ if is_stored => ALREADY_IN,
                 _ => 23,
             };
             calls.push((call, due));

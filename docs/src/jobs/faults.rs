@@ -1,16 +1,18 @@
 //! What cases of arrivals and of decodings have in common: a job to start from, its plan's faults,
-//! jobs at the limits, and numbers of hosts heard.
+//! jobs at the limits, numbers of hosts heard, and hosts heard with a message before.
 //!
-//!   SMALL    the job from which cases with faults start
-//!   spoilt   calls on it with faults put in, alone and in pairs
-//!   limits   calls on jobs at the limits of a plan
-//!   HEARD    numbers of hosts heard
-//!   last_of  the last element of a list
+//!   SMALL         the job from which cases with faults start
+//!   spoilt        calls on it with faults put in, alone and in pairs
+//!   limits        calls on jobs at the limits of a plan
+//!   HEARD         numbers of hosts heard
+//!   heard_before  an arrival's host is heard, and its message is in the store
+//!   last_of       the last element of a list
 
+use super::format::BUFFER;
 use crate::calls::messages::{sized, FIELDS};
 use crate::cases::faults::{alone_and_in_pairs, Expected, Fault};
 use crate::sheet::job_call::{Act, JobCall};
-use crate::sheet::message::{message, Fields};
+use crate::sheet::message::{message, Fields, HEADER};
 use crate::sheet::plan::{Job, Line};
 
 /// A job over q = 257: layout 1, K = 9 of 10 hosts, answers of 2 by 4 elements.
@@ -100,7 +102,7 @@ const LIMITS: [(Line, u32); 22] = [
     ([3, 64, 64, 64, 1, 1, 1, 1, 1, 64], 13),
     ([3, 16384, 1, 1, 4, 1, 1, 1, 1, 9], 13),
     ([3, 1, 1, 16384, 1, 1, 4, 1, 1, 9], 13),
-    ([2, 1366, 1, 1, 1, 1, 1, 1, 1, 3], 13),
+    ([2, 3073, 1, 1, 1, 1, 1, 1, 1, 4], 13),
 ];
 
 /// Calls on the jobs at the limits, with nothing in the store and no host heard: an arrival of host
@@ -120,7 +122,7 @@ pub fn limits(act: Act) -> Expected<JobCall> {
             job,
             job_number: FIELDS.job_number,
             points: (1..=job.hosts).collect(),
-            ..JobCall::telling(vec![0; if length <= 4096 { length } else { 0 }])
+            ..JobCall::telling(vec![0; if length <= BUFFER { length } else { 0 }])
         };
         match act {
             Act::Arrive => call.message = message(&fields, &[0]),
@@ -158,6 +160,17 @@ pub const HEARD: [(u32, u64, bool); 20] = [
     (64, 7 << 61, false),
     (64, 0, false),
 ];
+
+/// An arrival's host is heard before, and its block holds the elements of the message.
+pub fn heard_before(call: &mut JobCall) {
+    let host = u32::from(call.message[7]);
+    let fours = call.message[HEADER..].chunks_exact(4);
+    let elements = fours.map(|four| four.iter().fold(0, |x, &byte| x << 8 | u32::from(byte)));
+    let elements: Vec<u32> = elements.collect();
+    let block = call.block(host);
+    call.store[block].copy_from_slice(&elements);
+    call.heard |= 1 << (host - 1);
+}
 
 /// The last element of a list.
 pub fn last_of(elements: &mut [u32]) -> &mut u32 {

@@ -12,44 +12,55 @@
 //!   17      length of the list of bytes: the message of an arrival
 //!   18      the length of the table that a decoding is given, in elements
 //!
-//! The store is the front of a buffer of 4096 elements, which keeps all that it holds from case to
-//! case; list 2 replaces the front of it before the call. No case that leaves the store as it was
-//! takes more of it than the last list 2 gave. There are at most 128 points, 4096 elements in
-//! store and table, and 20,000 bytes of message. Words that a call has no use for are 0.
+//! The store is the front of a buffer of 12,288 elements, which keeps all that it holds from case
+//! to case; list 2 replaces the front of it before the call. No case that leaves the store as it was
+//! takes more of it than the last list 2 gave. There are at most 128 points, 12,288 elements in the
+//! store, 4096 in the table, and 20,000 bytes of message. Words that a call has no use for are 0.
 //!
-//! The outcome of an arrival is the refusal number, 0 for one that was taken, and two words with
-//! the hosts heard after it, which a refusal leaves as they were. The outcome of a decoding is the
-//! refusal number and the table after the call, told as in calls/format.rs: before the call every
-//! byte of it is A5 hex, and the part up to the last element that is not A5A5A5A5 hex is told, a
-//! word with its length and then its elements. The outcome of a call that tells the store is its
-//! elements.
+//! The outcome of an arrival is a word, 0 for one that was taken, 100 for one that is in already,
+//! else the refusal number; and two words with the hosts heard after it. The outcome of a decoding
+//! is the refusal number, 0 for one that was done, and the table after the call, told as in
+//! calls/format.rs: before the call every byte of it is A5 hex, and the part up to the last element
+//! that is not A5A5A5A5 hex is told, a word with its length and then its elements. The outcome of a
+//! call that tells the store is its elements.
 //!
-//!   number  the refusal number of a call
-//!   Files   cases and outcomes as they are written one after another
+//!   BUFFER      the length of the buffer that the store is the front of
+//!   ALREADY_IN  the word for an arrival that is in already
+//!   word        what becomes of a call, as a word
+//!   Files       cases and outcomes as they are written one after another
 
 use std::collections::BTreeMap;
 
 use crate::calls::format::{elements_told, words};
-use crate::sheet::arrival::arrive;
+use crate::sheet::arrival::{after, arrive, Arrived};
 use crate::sheet::decode::decode;
 use crate::sheet::job_call::{Act, JobCall};
 
-/// The length of the buffer that the store is the front of.
-const BUFFER: usize = 4096;
+/// The length of the buffer that the store is the front of: three blocks of 4096.
+pub const BUFFER: usize = 12_288;
 
-/// The refusal number of a call, 0 if it is done.
-pub fn number(call: &JobCall) -> u32 {
-    let refused = match call.act {
-        Act::Arrive => arrive(call).err(),
-        Act::Decode => decode(call).err(),
-        Act::Tell => None,
-    };
-    refused.unwrap_or(0)
+/// The most elements of a table.
+const MOST_TABLE: usize = 4096;
+
+/// The word for an arrival that is in already; no refusal has this number.
+pub const ALREADY_IN: u32 = 100;
+
+/// What becomes of a call: the refusal number, 0 if it is done, `ALREADY_IN` if it is in already.
+pub fn word(call: &JobCall) -> u32 {
+    match call.act {
+        Act::Arrive => match arrive(call) {
+            Ok(Arrived::Taken { .. }) => 0,
+            Ok(Arrived::AlreadyIn) => ALREADY_IN,
+            Err(number) => number,
+        },
+        Act::Decode => decode(call).err().unwrap_or(0),
+        Act::Tell => 0,
+    }
 }
 
-/// Cases and outcomes so far, how many there are of each call and refusal number, what the buffer
-/// then holds, how much of it the last list of elements gave, and whether an arrival was made since
-/// the store was last told.
+/// Cases and outcomes so far, how many there are of each call and of what becomes of it, what the
+/// buffer then holds, how much of it the last list of elements gave, and whether an arrival was made
+/// since the store was last told.
 pub struct Files {
     pub cases: Vec<u8>,
     pub outcomes: Vec<u8>,
@@ -93,28 +104,26 @@ impl Files {
         }
     }
 
-    /// Writes a call on the store that is there, and its outcome; a taken arrival changes the store.
+    /// Writes a call on the store that is there, and its outcome; an arrival that is taken changes
+    /// the store.
     fn put(&mut self, call: &JobCall, replaced: bool) {
         self.cases.extend(case(call, replaced));
         self.outcomes.extend(outcome(call));
-        *self.counts.entry((name(call), number(call))).or_default() += 1;
+        *self.counts.entry((name(call), word(call))).or_default() += 1;
         self.untold = match call.act {
             Act::Arrive => true,
             Act::Decode => self.untold,
             Act::Tell => self.untold && call.store.len() < self.given,
         };
-        if call.act == Act::Arrive {
-            if let Ok(arrived) = arrive(call) {
-                self.buffer[..arrived.store.len()].copy_from_slice(&arrived.store);
-            }
-        }
+        let (_, store) = after(call);
+        self.buffer[..store.len()].copy_from_slice(&store);
     }
 }
 
 /// The bytes of a case; panics if it is over the limits that the program on the other side has.
 fn case(call: &JobCall, replaced: bool) -> Vec<u8> {
     assert!(call.points.len() <= 128 && call.message.len() <= 20_000);
-    assert!(call.store.len() <= BUFFER && call.room <= BUFFER);
+    assert!(call.store.len() <= BUFFER && call.room <= MOST_TABLE);
     let mut head = vec![match call.act {
         Act::Arrive => 1,
         Act::Decode => 2,
@@ -144,12 +153,11 @@ fn halves(heard: u64) -> [u32; 2] {
 fn outcome(call: &JobCall) -> Vec<u8> {
     match call.act {
         Act::Arrive => {
-            let heard = arrive(call).map_or(call.heard, |arrived| arrived.heard);
-            let [high, low] = halves(heard);
-            words(&[number(call), high, low])
+            let [high, low] = halves(after(call).0);
+            words(&[word(call), high, low])
         }
         Act::Decode => {
-            let mut bytes = words(&[number(call)]);
+            let mut bytes = words(&[word(call)]);
             bytes.extend(elements_told(&decode(call).unwrap_or_default(), call.room));
             bytes
         }

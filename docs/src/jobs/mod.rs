@@ -5,6 +5,7 @@
 //!   stories    cases of whole jobs
 //!   faults     what cases of arrivals and of decodings have in common
 //!   arrivals   cases of arrivals by themselves
+//!   repeats    cases of messages that come again, by themselves and in whole jobs
 //!   decodings  cases of decodings by themselves
 //!   format     the file format of cases and outcomes
 
@@ -12,6 +13,7 @@ mod arrivals;
 mod decodings;
 pub mod faults;
 mod format;
+mod repeats;
 pub mod stories;
 mod story;
 
@@ -21,21 +23,21 @@ use crate::cases::save;
 use crate::sheet::job_call::JobCall;
 use crate::sheet::plan_check;
 use crate::sheet::random::Random;
-use format::{number, Files};
+use format::{word, Files, ALREADY_IN};
 
-/// The numbers that each call can give, with the least count of cases.
+/// What can become of each call, with the least count of cases.
 #[rustfmt::skip]
 const FLOORS: &Floors = &[
     ("arrival", &[
-        (0, 1543), (1, 82), (2, 83), (3, 39), (4, 37), (5, 36), (6, 69), (7, 35), (8, 36), (9, 32),
-        (10, 30), (11, 29), (12, 142), (13, 171), (14, 62), (16, 43), (17, 168), (18, 40),
-        (19, 50), (20, 118), (21, 107), (22, 245), (23, 206),
+        (0, 2570), (1, 92), (2, 95), (3, 40), (4, 38), (5, 37), (6, 79), (7, 36), (8, 37), (9, 33),
+        (10, 31), (11, 30), (12, 185), (13, 174), (14, 72), (16, 54), (17, 182), (18, 52),
+        (19, 59), (20, 137), (21, 131), (22, 309), (23, 741), (ALREADY_IN, 351),
     ]),
     ("decoding", &[
-        (0, 384), (1, 28), (2, 28), (3, 27), (4, 25), (5, 24), (6, 27), (7, 23), (8, 24), (9, 20),
-        (10, 18), (11, 17), (13, 256), (14, 52), (21, 78), (24, 373),
+        (0, 629), (1, 28), (2, 28), (3, 27), (4, 25), (5, 24), (6, 27), (7, 23), (8, 24), (9, 20),
+        (10, 18), (11, 17), (13, 287), (14, 52), (21, 78), (24, 620),
     ]),
-    ("store told", &[(0, 574)]),
+    ("store told", &[(0, 1196)]),
 ];
 
 /// Checks the program, then writes the cases to one file and their outcomes to the other.
@@ -52,18 +54,24 @@ pub fn write_files(stdin_file: &str, stdout_file: &str) {
     for call in expected(decodings::expected(random)) {
         files.add(&call);
     }
+    for call in repeats::told(random) {
+        files.add(&call);
+    }
+    for call in expected(repeats::expected(random)) {
+        files.add(&call);
+    }
     files.tell();
     hold(&files.counts, FLOORS);
-    assert!(files.cases.len() < 1_200_000 && files.outcomes.len() < 600_000);
+    assert!(files.cases.len() < 2_200_000 && files.outcomes.len() < 800_000);
     save(stdin_file, &files.cases);
     save(stdout_file, &files.outcomes);
 }
 
-/// The calls of a list; panics if one gets another refusal number than it was made for.
+/// The calls of a list; panics if something else becomes of one than it was made for.
 fn expected(list: Expected<JobCall>) -> Vec<JobCall> {
     let mut calls = Vec::new();
     for (call, due) in list {
-        assert_eq!(number(&call), due, "{:?}", call.job.line());
+        assert_eq!(word(&call), due, "{:?}", call.job.line());
         calls.push(call);
     }
     calls

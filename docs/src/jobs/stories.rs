@@ -1,9 +1,12 @@
 //! Stories of whole jobs: true products in random order, with refused calls and decodings between.
 //!
-//!   told         all stories
-//!   small_line   a random plan with few hosts
-//!   draw_points  points of some kind
+//!   told               all stories
+//!   draw_small         a random job with few hosts
+//!   small_line         a random plan with few hosts
+//!   draw_points        points of some kind
+//!   answers_otherwise  a host that is heard sends other messages
 
+use super::format::BUFFER;
 use super::story::Story;
 use crate::calls::shares::distinct_points;
 use crate::cases::draw::draw_in_layout;
@@ -50,6 +53,7 @@ fn checked_by_hand(random: &mut Random) -> Vec<JobCall> {
             story.answers_truly(host);
             story.decodes();
         }
+        story.ends();
         calls.extend(story.calls);
     }
     calls
@@ -67,7 +71,7 @@ fn small_jobs(random: &mut Random) -> Vec<JobCall> {
 }
 
 /// A random job with at most 16 hosts; the round decides on modulus, layout and the kind of points.
-fn draw_small(random: &mut Random, round: u32) -> WholeJob {
+pub fn draw_small(random: &mut Random, round: u32) -> WholeJob {
     let line = small_line(random, round);
     let points = draw_points(random, line, round / 6);
     WholeJob::drawn(random, line, points)
@@ -118,7 +122,7 @@ fn disturbed(random: &mut Random, whole: &WholeJob, liars: usize, others: u32) -
         }
     }
     disturb(random, &mut story);
-    story.tells();
+    story.ends();
     story.calls
 }
 
@@ -150,6 +154,26 @@ fn repeated(random: &mut Random, story: &mut Story) {
     } else {
         story.answers_falsely(random, host);
     }
+}
+
+/// A host that sent its true product sends it with another first element, with another last one, and
+/// with another bit in the last; then its true product again.
+pub fn answers_otherwise(story: &mut Story, host: u32) {
+    let (truth, q) = (&story.whole.products[host as usize - 1], story.whole.q);
+    let last = truth.len() - 1;
+    let bits = (0..17).map(|bit| truth[last] ^ 1 << bit);
+    let another_bit = bits.clone().find(|&element| element < q).expect("a bit");
+    let others = [
+        (0, (truth[0] + 1) % q),
+        (last, (truth[last] + q - 1) % q),
+        (last, another_bit),
+    ];
+    for (at, element) in others {
+        let mut elements = truth.clone();
+        elements[at] = element;
+        story.answers(host, &elements);
+    }
+    story.answers_truly(host);
 }
 
 /// The ways to damage the bytes of any message, with the numbers that are due.
@@ -185,7 +209,7 @@ fn damaged(random: &mut Random, story: &mut Story) {
     let mut call = story.next(Act::Arrive);
     call.message = story.whole.message(random.within(1, story.whole.job.hosts));
     damage(&mut call.message);
-    story.refuses(call, due);
+    story.changes_nothing(call, due);
 }
 
 /// A message arrives that is fit for another job: another kind, job number, modulus, or other
@@ -205,7 +229,7 @@ fn foreign(random: &mut Random, story: &mut Story) {
     }
     let mut call = story.next(Act::Arrive);
     call.message = message(&fields, &vec![0; (fields.rows * fields.columns) as usize]);
-    story.refuses(call, 22);
+    story.changes_nothing(call, 22);
 }
 
 /// A message arrives that is fit but for a host above N; where N is 64 there is none, and the next
@@ -220,7 +244,7 @@ fn above(random: &mut Random, story: &mut Story) {
     let mut call = story.next(Act::Arrive);
     let elements = &story.whole.products[0];
     call.message = message(&story.whole.fields(host), elements);
-    story.refuses(call, 12);
+    story.changes_nothing(call, 12);
 }
 
 /// A call is given a store that is a block or an element too long or too short; an arrival has a
@@ -233,9 +257,9 @@ fn wrong_store(random: &mut Random, story: &mut Story, act: Act) {
     }
     let (length, block) = (call.store.len(), story.whole.products[0].len());
     let lengths = [length - block, length - 1, length + 1, length + block];
-    call.store.resize(lengths[random.index(4)].min(4096), 0);
+    call.store.resize(lengths[random.index(4)].min(BUFFER), 0);
     if call.store.len() != length {
-        story.refuses(call, 13);
+        story.changes_nothing(call, 13);
     }
 }
 
@@ -251,7 +275,7 @@ fn unknown_heard(random: &mut Random, story: &mut Story) {
         call.message = story.whole.message(random.within(1, hosts));
     }
     call.heard |= 1 << random.within(hosts, 63);
-    story.refuses(call, 21);
+    story.changes_nothing(call, 21);
 }
 
 /// A decoding is given a table of another length.
@@ -259,7 +283,7 @@ fn wrong_table(random: &mut Random, story: &mut Story) {
     let mut call = story.next(Act::Decode);
     let length = call.room;
     call.room = [length - 1, length + 1, 2 * length, 0][random.index(4)];
-    story.refuses(call, 13);
+    story.changes_nothing(call, 13);
 }
 
 /// The sheet's example of 17 answers out of 20, document 000's worked example in layout 2, the
@@ -305,8 +329,9 @@ fn fillings(random: &mut Random) -> Vec<JobCall> {
     calls
 }
 
-/// Stores of up to 4096 elements: blocks of 1365 and of 1024 elements, 63 needed of 64 hosts for a
-/// table of 49 blocks; and sums over 16384 products.
+/// Large stores: blocks of 1365 and of 1024 elements, 63 needed of 64 hosts for a table of 49 blocks;
+/// sums over 16384 products; and blocks of 4096. One host sends its message again, then others that
+/// differ from it in the first or in the last element.
 fn large_blocks(random: &mut Random) -> Vec<JobCall> {
     let lines = [
         [3, 35, 2, 39, 1, 1, 1, 1, 1, 3],
@@ -314,6 +339,7 @@ fn large_blocks(random: &mut Random) -> Vec<JobCall> {
         [3, 56, 2, 56, 7, 1, 7, 1, 1, 64],
         [3, 1, 16384, 1, 1, 4, 1, 1, 1, 10],
         [1, 2, 8192, 1, 1, 4, 1, 1, 1, 9],
+        [3, 64, 1, 64, 1, 1, 1, 1, 1, 3],
     ];
     let mut calls = Vec::new();
     for line in lines {
@@ -326,7 +352,8 @@ fn large_blocks(random: &mut Random) -> Vec<JobCall> {
         story.answers_truly(first[0]);
         story.decodes();
         story.answers_truly(*last);
-        story.decodes();
+        story.ends();
+        answers_otherwise(&mut story, first[0]);
         story.tells();
         calls.extend(story.calls);
     }

@@ -1,4 +1,4 @@
-//! Messages, version 1: written, looked over and read.
+//! Messages, version 1: written, looked over, read and compared with a block.
 
 use crate::field::{all_below, big_endian, prime, with_prime};
 use crate::plan::outside;
@@ -113,6 +113,12 @@ pub fn read_elements(payload: &[u8], out: &mut [u32]) {
     for (slot, element) in out.iter_mut().zip(big_endian(payload)) {
         *slot = element;
     }
+}
+
+/// Whether the elements of a payload are those of a block.
+pub fn same_elements(payload: &[u8], block: &[u32]) -> bool {
+    let pairs = big_endian(payload).zip(block);
+    pairs.fold(true, |same, (sent, &stored)| same & (sent == stored))
 }
 
 /// Reads a message: its fields, and its elements into the output.

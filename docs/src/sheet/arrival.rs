@@ -1,20 +1,22 @@
-//! Arrivals of answers (01, "Arrivals" and "Arrival" among what is turned down).
+//! Arrivals of answers (01, "Arrivals" and "Arrival" among what is turned down; 02, U1).
 //!
-//!   Arrived  the hosts heard and the store after an arrival
-//!   arrive   what an arrival leaves, or the first refusal number that fits
+//!   Arrived  what becomes of an arrival that no refusal number fits
+//!   arrive   what becomes of an arrival, or the first refusal number that fits
+//!   after    the hosts heard and the store after any call
 
-use super::job_call::{first_tests, JobCall};
-use super::message::{read, Fields, Reading};
+use super::job_call::{first_tests, Act, JobCall};
+use super::message::{read, write, Fields, Reading, Writing, HEADER};
 
-/// The hosts heard and the store after an arrival that was taken.
+/// What becomes of an arrival that no refusal number fits: it is taken, and these are the hosts
+/// heard and the store after it; or it is in already, and changes nothing.
 #[derive(Debug, PartialEq, Eq)]
-pub struct Arrived {
-    pub heard: u64,
-    pub store: Vec<u32>,
+pub enum Arrived {
+    Taken { heard: u64, store: Vec<u32> },
+    AlreadyIn,
 }
 
-/// What an arrival leaves, or the first refusal number that fits. Reading's own 13 is no test of
-/// an arrival, so the message is read into an output that is long enough.
+/// What becomes of an arrival, or the first refusal number that fits. Reading's own 13 is no test
+/// of an arrival, so the message is read into an output that is long enough.
 pub fn arrive(call: &JobCall) -> Result<Arrived, u32> {
     first_tests(call)?;
     let (fields, elements) = read(&Reading {
@@ -28,12 +30,23 @@ pub fn arrive(call: &JobCall) -> Result<Arrived, u32> {
         return Err(12);
     }
     if call.is_heard(fields.host) {
-        return Err(23);
+        return match stored(call, fields.host) {
+            Ok(first) if first == call.message => Ok(Arrived::AlreadyIn),
+            _ => Err(23),
+        };
     }
     let mut store = call.store.clone();
     store[call.block(fields.host)].copy_from_slice(&elements);
     let heard = call.heard | 1 << (fields.host - 1);
-    Ok(Arrived { heard, store })
+    Ok(Arrived::Taken { heard, store })
+}
+
+/// The hosts heard and the store after any call: an arrival that is taken changes them.
+pub fn after(call: &JobCall) -> (u64, Vec<u32>) {
+    match (call.act, arrive(call)) {
+        (Act::Arrive, Ok(Arrived::Taken { heard, store })) => (heard, store),
+        _ => (call.heard, call.store.clone()),
+    }
 }
 
 /// The fields that a host's answer to this job must have.
@@ -46,4 +59,15 @@ fn due_fields(call: &JobCall, host: u32) -> Fields {
         columns: call.job.r / call.job.n,
         job_number: call.job_number,
     }
+}
+
+/// What is stored for a host: the message that writing its block gives. A block with an element not
+/// below q gives none.
+fn stored(call: &JobCall, host: u32) -> Result<Vec<u8>, u32> {
+    let elements = call.store[call.block(host)].to_vec();
+    write(&Writing {
+        fields: due_fields(call, host),
+        room: HEADER + 4 * elements.len(),
+        elements,
+    })
 }

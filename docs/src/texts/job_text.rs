@@ -112,7 +112,7 @@ fn answers(order: &[u32], hosts: u32, needed: usize) -> (String, Vec<u32>) {
         } else if !(1..=hosts).contains(&host) {
             answer_line(host, "refused", 12)
         } else if heard.contains(&host) {
-            answer_line(host, "refused", 23)
+            answer_line(host, "already in, heard", heard.len())
         } else {
             heard.push(host);
             answer_line(host, "taken, heard", heard.len())

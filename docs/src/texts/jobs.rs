@@ -29,7 +29,7 @@ pub fn jobs(random: &mut Random) -> Vec<Case> {
 const BY_HAND: &str = "JOB 1 1 1 1 1 1 1 1 1 3 7\nPOINTS 1 2 3\nA 5\nB 4\n\
     MASKS_A 7\nMASKS_B 9\nANSWERS 2 2 0 4 3 1 1\n";
 const BY_HAND_DUE: &str = "MODULUS 13\nLAYOUT 1\nHOSTS 3\nNEEDED 3\nA 0 | 1\nB 0 | 1\nC 0\n\
-    host 2 taken, heard 1\nhost 2 refused 23\nhost 0 refused 12\nhost 4 refused 12\n\
+    host 2 taken, heard 1\nhost 2 already in, heard 1\nhost 0 refused 12\nhost 4 refused 12\n\
     host 3 taken, heard 2\nhost 1 taken, heard 3\nhost 1 late, heard 3\nHEARD 1 2 3\n\
     TABLE\n7\nSIGNED READING\n-6\n";
 
@@ -212,7 +212,7 @@ fn orders(random: &mut Random) -> Vec<Case> {
 
 /// Jobs with as many elements as the program has room for: answers, A blocks, B blocks or all of
 /// them 32,768 for all hosts, or one fewer; the longest column, row and inner side that a text has
-/// room for. Where it says so, elements and masks have one digit.
+/// room for. Where it says so, elements and masks have one digit. The first host answers twice.
 fn large_blocks(random: &mut Random) -> Vec<Case> {
     let lines = [
         ([1, 64, 1, 64, 1, 1, 1, 1, 1, 8], false),
@@ -235,7 +235,9 @@ fn large_blocks(random: &mut Random) -> Vec<Case> {
         let points = draw_points(random, line, 3);
         let q = prime(line[0]).expect("a modulus number");
         let below = if one_digit { 10 } else { q };
-        cases.push(JobText::drawn(random, line, points, below).case());
+        let mut job = JobText::drawn(random, line, points, below);
+        job.order.insert(1, job.order[0]);
+        cases.push(job.case());
     }
     cases
 }

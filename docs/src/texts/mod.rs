@@ -131,7 +131,7 @@ fn report(counts: &BTreeMap<String, u32>, cases: &[Case]) {
     for (kind, count) in counts {
         println!("{kind}: {count}");
     }
-    for words in ["taken", "refused 12", "refused 23", "late"] {
+    for words in ["taken", "already in", "refused 12", "late"] {
         let is_such = |line: &&str| line.starts_with("host ") && line.contains(words);
         let count = |(_, due): &Case| due.lines().filter(is_such).count();
         println!(

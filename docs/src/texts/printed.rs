@@ -175,8 +175,9 @@ fn take(whole: &WholeJob, call: &mut JobCall, host: u32) -> String {
     }
     match arrival(whole, call, host) {
         Err(number) => answer_line(host, "refused", number as usize),
-        Ok(after) => {
-            (call.heard, call.store) = (after.heard, after.store);
+        Ok(Arrived::AlreadyIn) => answer_line(host, "already in, heard", call.heard_hosts().len()),
+        Ok(Arrived::Taken { heard, store }) => {
+            (call.heard, call.store) = (heard, store);
             answer_line(host, "taken, heard", call.heard_hosts().len())
         }
     }

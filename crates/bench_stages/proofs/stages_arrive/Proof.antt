@@ -16,6 +16,9 @@ arrive-requires c κs = search needs
 enum-known-arrived : tie.Need-enum-known-arrived
 enum-known-arrived c = search needs
 
+enum-told : tie.Need-enum-told
+enum-told c = search needs
+
 enum-known-arrived-2 : tie.Need-enum-known-arrived-2
 enum-known-arrived-2 c = search needs
 
@@ -52,6 +55,15 @@ same-length-2 c = search needs
 
 returns-2 : tie.Need-returns-2
 returns-2 c =
+    let p = c .before .before .before .before in
+    let in-already = arrived-is p ∙ c .enum-told .given .1 in
+    (sym (ap numberOf in-already), (sym (ap (heardAfter (start p .args .heard .now)) in-already), stored-is p))
+
+same-length-3 : tie.Need-same-length-3
+same-length-3 c = search needs
+
+returns-3 : tie.Need-returns-3
+returns-3 c =
     let p = c .before .before .before .before .before in
     let taken = arrived-is p ∙ c .before .arrived2 .given .1 in
     (sym (ap numberOf taken), (sym (ap (heardAfter (start p .args .heard .now)) taken), stored-is p))
@@ -63,8 +75,11 @@ stages-arrive-spec =
     job-of-requires
     arrive-requires
     enum-known-arrived
+    enum-told
     enum-known-arrived-2
     same-length
     returns
     same-length-2
-    returns-2)
+    returns-2
+    same-length-3
+    returns-3)
