@@ -4,15 +4,21 @@
 --   length-elements, element-is                     the elements of bytes, one by one
 --   write-four, length-four                         one more element is written as its four bytes; the output stays as long
 --   written-exact                                   elements written where they just fit
+--   no-bit-differs                                  differing bits are gathered: none is found where two numbers are equal
 use mathlib.Core.Path.{_≡_, sym, ap, ap₂, _∙_}
+use mathlib.Core.Bool.{true, _&&_, and-eq-true-iff}
 use mathlib.Core.List.{List, [], _∷_, _++_, append-nil}
 use Prim.Native.Nat.{ℕ, suc, _+_, _*_, _/_, _%_, _<_, _≤_, min}
 use native.Mathlib.Nat.{add-zero}
 use native.Mathlib.Numerals.{add-one}
 use native.Mathlib.Omega.{arith}
+use lib.Bits.{bitOr, bitXor, or-add-and, xor-add-and, and-le-l, and-le-r, xor-self}
+use lib.Dec.{eqb}
 use lib.ListN.{length, getD, take, drop, set, length-set, drop-of-length-le}
 use lib.Seq.{take-suc, take-length, take-at, drop-drop, drop-append-add, length-take-le, sets-eq}
+use borrow.Author.Tests.{eqb-true, eq-eqb}
 use Rattle.algebra.proofs.Lists.{length-tab, getD-tab}
+use Rattle.algebra.proofs.Tests.{tests-alike}
 use Rattle.message_bytes.specs.Bytes.{bigEndian, numberAt, bytesOf, elementsOf}
 use Rattle.message_bytes.specs.Contracts.{common}
 use Rattle.message_bytes.proofs.Bytes.{length-bytesOf, bytesOf-append}
@@ -89,3 +95,17 @@ unfolding common
 written-exact out xs same =
     let all : min (length out / 4) (length xs) ≡ length xs = omega arith in
     rw (all, take-length xs, drop-of-length-le out {i = length xs * 4} (omega arith)) (append-nil (bytesOf xs))
+
+pub no-bit-differs : (d a b : ℕ) → eqb (bitOr d (bitXor a b)) 0 ≡ (eqb d 0 && eqb a b)
+no-bit-differs d a b =
+    let x = bitXor a b in
+    tests-alike (eqb (bitOr d x) 0) (eqb d 0 && eqb a b)
+    (λ (t : eqb (bitOr d x) 0 ≡ true).
+    let none = eqb-true (bitOr d x) 0 t in
+    let before : d ≡ 0 = omega (arith, none, or-add-and d x, and-le-r d x) in
+    let now : x ≡ 0 = omega (arith, none, or-add-and d x, and-le-l d x) in
+    and-eq-true-iff (eqb d 0) (eqb a b) .1
+    (eq-eqb d 0 before, eq-eqb a b (omega (arith, now, xor-add-and a b, and-le-l a b, and-le-r a b))))
+    (λ (t : (eqb d 0 && eqb a b) ≡ true).
+    let parts = and-eq-true-iff (eqb d 0) (eqb a b) .0 t in
+    eq-eqb (bitOr d x) 0 (ap₂ (λ (c e : ℕ). bitOr c (bitXor e b)) (eqb-true d 0 (parts .0)) (eqb-true a b (parts .1)) ∙ xor-self b))

@@ -92,11 +92,11 @@ pub fn same_bytes(bytes: &[u8], xs: &[u32]) -> bool
     if bytes.len() != xs.len() * 4 {
         return false;
     }
-    let mut equal = true;
+    let mut differ = 0;
     let mut i = 0;
     while i < xs.len() {
-        equal = equal & (element_at(bytes, i * 4) == xs[i]);
+        differ = differ | (element_at(bytes, i * 4) ^ xs[i]);
         i += 1;
     }
-    equal
+    differ == 0
 }

@@ -10,20 +10,20 @@ use Rattle.algebra.specs.Lists.{same}
 use Rattle.algebra.proofs.Lists.{same-long, same-none, same-step, same-all}
 use Rattle.message_bytes.specs.Bytes.{bytesOf, elementsOf}
 use Rattle.message_bytes.proofs.Bytes.{length-bytesOf, same-elements}
-use Rattle.message_bytes.proofs.Words.{length-elements, element-is}
+use Rattle.message_bytes.proofs.Words.{length-elements, element-is, no-bit-differs}
 use Rattle.message_bytes.proofs.same_bytes.Statement.{statement}
 use Rattle.message_bytes.proofs.same_bytes.Tie as tie
 
 abbrev Inv-loop : tie.InvT-loop
-Inv-loop bytes xs equal₀ i₀ equal i =
+Inv-loop bytes xs differ₀ i₀ differ i =
     record {
       short : i ≤ length xs;
       whole : length bytes ≡ length xs * 4;
-      is : equal ≡ same (take i (elementsOf (length xs) bytes)) (take i xs);
+      is : eqb differ 0 ≡ same (take i (elementsOf (length xs) bytes)) (take i xs);
     }
 
 abbrev μ-loop : tie.MeasureT-loop
-μ-loop bytes xs equal₀ i₀ equal i = length xs - i
+μ-loop bytes xs differ₀ i₀ differ i = length xs - i
 
 mul-if1 : tie.Need-mul-if1 Inv-loop μ-loop
 mul-if1 c = search needs
@@ -44,11 +44,11 @@ mul-element-at c = omega arith
 element-at-requires : tie.Need-element-at-requires Inv-loop μ-loop
 element-at-requires c κs = omega arith
 
-mul-equal : tie.Need-mul-equal Inv-loop μ-loop
-mul-equal c = omega arith
+mul-differ : tie.Need-mul-differ Inv-loop μ-loop
+mul-differ c = omega arith
 
-shared-slice-read-equal : tie.Need-shared-slice-read-equal Inv-loop μ-loop
-shared-slice-read-equal c = omega arith
+shared-slice-read-differ : tie.Need-shared-slice-read-differ Inv-loop μ-loop
+shared-slice-read-differ c = omega arith
 
 add-i : tie.Need-add-i Inv-loop μ-loop
 add-i c = omega arith
@@ -67,7 +67,8 @@ loop-again c =
       short = omega arith;
       whole = l .loop .inv .whole;
       is =
-          ap₂ _&&_ (l .loop .inv .is)
+          no-bit-differs (l .loop .differ) (c .before .element-at .result) (getD xs (l .loop .i) 0)
+          ∙ ap₂ _&&_ (l .loop .inv .is)
           (ap (λ (n : ℕ). eqb n (getD xs (l .loop .i) 0)) (c .before .element-at .ensures ∙ sym (element-is (length xs) bytes (l .loop .i) (omega arith))))
           ∙ sym (same-step held xs (l .loop .i) (omega (arith, length-elements (length xs) bytes)) (omega arith));
     }
@@ -95,8 +96,8 @@ same-bytes-spec =
     loop-holds
     mul-element-at
     element-at-requires
-    mul-equal
-    shared-slice-read-equal
+    mul-differ
+    shared-slice-read-differ
     add-i
     loop-less
     loop-again
