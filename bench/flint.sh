@@ -28,4 +28,5 @@ if [ "${1:-}" != --yes ]; then
         *) stop "nothing was installed" ;;
     esac
 fi
+apt-get update -qq
 apt-get install -y -qq libflint-dev
