@@ -69,13 +69,15 @@ pub record Retried (x : Task) : Type 0 where
       → (message ≡ stored x s (index message) → reply x s (arrival message) ≡ already)
       × ((message ≡ stored x s (index message) → ⊥) → reply x s (arrival message) ≡ differs)
       × (after x s (arrival message) ≡ s)
-  -- "and the first stays stored": what a host's block is after any list of calls; without a fit message, what it was
+  -- "and the first stays stored": a host's block after any list of calls; without a fit message, what it was at first
   pub holds : (store : List ℕ) (cs : List Call) (i : ℕ)
       → blockAt (answerLength (x .job)) (run x (begin store) cs .store) i
       ≡ cond (hasFit x (begin store) cs i) (elements (firstFit x (begin store) cs i)) (blockAt (answerLength (x .job)) store i)
+  -- "the first stays stored", as a message, byte for byte
   pub first-kept : (store : List ℕ) (cs : List Call) → Bytes cs → (i : ℕ) → hasFit x (begin store) cs i ≡ true
       → stored x (run x (begin store) cs) i ≡ firstFit x (begin store) cs i
-  -- so what a fit message is told, wherever it stands in a list of calls, goes by its host's first
+  -- "now answers "already in" .. A differing second message still gets 23": what a fit message is told, wherever it stands in a
+  -- list of calls, by its host's first
   pub told : (store : List ℕ) (before rest : List Call) (message : List ℕ) → Bytes before → AllBelow 256 message
       → fit x (run x (begin store) before) message ≡ true
       → getD (replies x (begin store) (before ++ (arrival message ∷ rest))) (length before) unanswered
