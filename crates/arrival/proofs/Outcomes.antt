@@ -1,6 +1,7 @@
 -- What an arrival returns and leaves, by its tests.
 --
 --   message-numbered   every test of a message has a number
+--   arrived-by         what an arrival returns, by its number and by whether its host is heard
 --   told-message, told-answer, told-again  a test of the message tells the number; or 22 or 12 does; or the last test, 23
 --   refused            a message is refused by a number that is not 0: the store stays
 --   taken              a message of a host not heard is taken: the host's block is written, and its bit is set
@@ -43,6 +44,9 @@ use Rattle.arrival.specs.Contracts.{receivedTests, received, storeReceiv
 pub message-numbered : (message : List ℕ) → T (numbered (messageTests message))
 unfolding messageTests headerTests fieldTests numbered
 message-numbered message = tt
+
+abbrev pub arrived-by : ℕ → List ℕ → ℕ → Bool → Arrived
+arrived-by heard message n h = outcome n (cond h AlreadyIn (Taken (withHost heard (hostIndex (headerOf message))))) Refused
 
 -- a call with these tests is refused
 by-number : (tests : List Test) (next : Arrived) (after store : List ℕ) (n : ℕ) → (n ≡ 0 → ⊥) → first tests ≡ n

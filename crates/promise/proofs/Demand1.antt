@@ -27,9 +27,7 @@ use Rattle.mukerihe.specs.Host.{hostTests, hostAfter}
 use Rattle.message_header.specs.Header.{headerOf, headerTests, fieldTests}
 use Rattle.message.specs.Format.{elements, writeTests, messageTests, readTests, written, readInto}
 use Rattle.message.proofs.Outcomes.{read-told}
-use Rattle.arrival.specs.declared.Arrived.{Arrived}
-use Rattle.arrival.specs.declared.Arrived.the-variants.{Taken, AlreadyIn}
-use Rattle.arrival.specs.declared.Arrived.the-variants.{Refused as Arrived·Refused}
+use Rattle.arrival.proofs.Outcomes.{arrived-by}
 use Rattle.arrival_heard.specs.Heard.{isHeard, withHost}
 use Rattle.arrival.specs.Arriving.{answerLength, withBlock, hostIndex, stateTests, answerTests, againTests, arrivalTests}
 use Rattle.arrival.specs.Arriving.{entered, storeEntered, arrived, storeAfter, numberOf, heardAfter, alreadyIn}
@@ -90,18 +88,15 @@ module _ (job : Job) (heard : ℕ) (store message : List ℕ) where
   next : ℕ
   next = withHost heard (hostIndex (headerOf message))
 
-  outcome-by : ℕ → Bool → Arrived
-  outcome-by n h = outcome n (cond h AlreadyIn (Taken next)) Arrived·Refused
-
   record Left (n : ℕ) (h : Bool) : Type 0 where
-    number : numberOf (outcome-by n h) ≡ n
-    made : numberOf (outcome-by n h) ≡ 0 → cond h store put ≡ cond (alreadyIn (outcome-by n h)) store put
-    heard-made : numberOf (outcome-by n h) ≡ 0 → heardAfter heard (outcome-by n h) ≡ cond (alreadyIn (outcome-by n h)) heard next
-    heard-kept : (numberOf (outcome-by n h) ≡ 0 → ⊥) → heardAfter heard (outcome-by n h) ≡ heard
-    already : (alreadyIn (outcome-by n h) ≡ true) ↔ ((numberOf (outcome-by n h) ≡ 0) × (h ≡ true))
+    number : numberOf (arrived-by heard message n h) ≡ n
+    made : numberOf (arrived-by heard message n h) ≡ 0 → cond h store put ≡ cond (alreadyIn (arrived-by heard message n h)) store put
+    heard-made : numberOf (arrived-by heard message n h) ≡ 0 → heardAfter heard (arrived-by heard message n h) ≡ cond (alreadyIn (arrived-by heard message n h)) heard next
+    heard-kept : (numberOf (arrived-by heard message n h) ≡ 0 → ⊥) → heardAfter heard (arrived-by heard message n h) ≡ heard
+    already : (alreadyIn (arrived-by heard message n h) ≡ true) ↔ ((numberOf (arrived-by heard message n h) ≡ 0) × (h ≡ true))
 
   left-by : (n : ℕ) (h : Bool) → Left n h
-  unfolding outcome-by outcome
+  unfolding next outcome
   left-by zero true = record {
     number = refl;
     made = λ z. refl;
@@ -129,7 +124,7 @@ after-plan : (job : Job) (points : List ℕ) (tests : List Test) → T (numbered
 after-plan job points tests = numbered-append (planTests job points) tests (plan-numbered job points)
 
 pub demand-1 : Demand1
-unfolding shareTests matrixTests shareAfter productTests productAfter hostTests hostAfter fieldTests writeTests messageTests headerTests readTests written readInto stateTests answerTests againTests arrivalTests entered storeEntered arrived storeAfter put next outcome-by decodeTests tableTests tableAfter numbered
+unfolding shareTests matrixTests shareAfter productTests productAfter hostTests hostAfter fieldTests writeTests messageTests headerTests readTests written readInto stateTests answerTests againTests arrivalTests entered storeEntered arrived storeAfter put next decodeTests tableTests tableAfter numbered
 demand-1 = record {
   plan = λ job points. tells (planTests job points) _ (plan-numbered job points) (plan-told job points);
   share = λ m job points host xs ms out. called _ _ _ (after-plan job points _ tt) refl;

@@ -2,7 +2,7 @@
 --
 --   core               the tests of a message, and 22 and 12: those that neither the plan nor the state play a part in
 --   core-numbered      each of them has a number
---   Passed, fit-passed what a fit arrival has passed: the plan's tests, 13 and these
+--   FitArrival, fit-arrival  what a fit arrival has passed: the plan's tests, 13 and these
 --   fit-core           past the plan's tests and 13, an arrival is fit where none of these holds
 --   arrival-core       past 21 too, an arrival is judged by these, and by 23
 --   FitMessage         what a fit message has: its header is that of its host's answer, its host's index is below N, and its
@@ -67,14 +67,14 @@ module _ (job : Job) (points : List ℕ) (heard : ℕ) (store message : List ℕ
       ∙ except-append 21 plan (except 23 own)
       ∙ ap₂ (λ (l r : List Test). l ++ r) (kept .0) own-left
 
-  pub record Passed : Type 0 where
+  pub record FitArrival : Type 0 where
     pub planned : first (planTests job points) ≡ 0
     pub room : length store ≡ storeLength job
     pub clear : first (core job message) ≡ 0
 
-  pub fit-passed : first (except 21 (except 23 (arrivalTests job points heard store message))) ≡ 0 → Passed
+  pub fit-arrival : first (except 21 (except 23 (arrivalTests job points heard store message))) ≡ 0 → FitArrival
   unfolding left
-  fit-passed e =
+  fit-arrival e =
       let parts = first-append-clear (planTests job points) left (plan-numbered job points) (ap first (sym fit-tests) ∙ e) in
       let rest = first-clear _ 12 _ (parts .1) in
       record { planned = parts .0; room = equal _ _ (rest .0); clear = rest .1 }

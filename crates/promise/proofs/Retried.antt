@@ -22,14 +22,13 @@ use Rattle.message_header.specs.Header.{header}
 use Rattle.message_header.proofs.Headers.{length-header}
 use Rattle.message.specs.Format.{messageOf, payload, elements}
 use Rattle.message.proofs.RoundTrips.{is-written}
-use Rattle.arrival_heard.specs.Heard.{isHeard, withHost}
+use Rattle.arrival_heard.specs.Heard.{isHeard}
 use Rattle.arrival_heard.proofs.Bits.{none-heard}
-use Rattle.arrival.specs.declared.Arrived.{Arrived}
-use Rattle.arrival.specs.declared.Arrived.the-variants.{Taken, AlreadyIn, Refused}
+use Rattle.arrival.proofs.Outcomes.{arrived-by}
 use Rattle.arrival.specs.Arriving.{answerLength, blockAt, repeated, entered, arrived, numberOf, alreadyIn}
 use Rattle.promise.specs.Demand3.{Task, Call, arrival, decoding, State, Reply, arrives, after, reply, run}
 use Rattle.promise.specs.Demand3.{fit, fitFor, hasFit, bytes, firstFit, begin, answerHeader}
-use Rattle.promise.specs.Retried.{index, Bytes, stored, taken, already, differs, RetriedUploads}
+use Rattle.promise.specs.Retried.{index, Bytes, stored, taken, already, differing, RetriedUploads}
 use Rattle.promise.proofs.Fits.{core, fit-message}
 use Rattle.promise.proofs.Steps.{Good, number, after-again, fit-good, good-or-still, named, passed, number-fit}
 use Rattle.promise.proofs.Trace.{ran, run-still, has-good, heard-is, replies-at}
@@ -67,7 +66,7 @@ module _ (x : Task) (s : State) (good : Good x s) (message : List ℕ) (f : fit 
   -- what the number n tells, of a host that is heard or not
   replied : ℕ → Bool → Reply
   replied n h =
-      let r : Arrived = outcome n (cond h AlreadyIn (Taken (withHost (s .heard) (index message)))) Refused in
+      let r = arrived-by (s .heard) message n h in
       record { number = numberOf r; already = alreadyIn r; table = [] }
 
   reply-is : {n : ℕ} {h : Bool} → number x s message ≡ n → isHeard (s .heard) (index message) ≡ h → reply x s (arrival message) ≡ replied n h
@@ -79,13 +78,13 @@ module _ (x : Task) (s : State) (good : Good x s) (message : List ℕ) (f : fit 
   reply-new h = reply-is (number-fit x s good message f h refl ∙ first-miss false 23 [] refl ∙ first-none) h
 
   module _ (h : isHeard (s .heard) (index message) ≡ true) where
-    by-repeated : (t : Bool) → repeated (answerLength (x .job)) (s .store) message ≡ t → reply x s (arrival message) ≡ cond t already differs
-    unfolding replied outcome already differs
+    by-repeated : (t : Bool) → repeated (answerLength (x .job)) (s .store) message ≡ t → reply x s (arrival message) ≡ cond t already differing
+    unfolding replied outcome already differing
     by-repeated true e = reply-is (number-fit x s good message f h e ∙ first-miss false 23 [] refl ∙ first-none) h
     by-repeated false e = reply-is (number-fit x s good message f h e ∙ first-hit true 23 [] refl) h
 
     reply-heard : AllBelow 256 message → {kept : List ℕ} → stored x s (index message) ≡ kept
-        → reply x s (arrival message) ≡ cond (same message kept) already differs
+        → reply x s (arrival message) ≡ cond (same message kept) already differing
     reply-heard made e =
         by-repeated _ (repeated-is x message made (passed x s message f) s ∙ ap (λ (l : List ℕ). same message l) e)
 
@@ -155,7 +154,7 @@ module _ (x : Task) (store : List ℕ) where
   told : (before : List Call) (message : List ℕ) → Bytes before → AllBelow 256 message → fit x (run x (begin store) before) message ≡ true
       → let i = index message in
       reply x (run x (begin store) before) (arrival message)
-      ≡ cond (hasFit x (begin store) before i) (cond (same message (firstFit x (begin store) before i)) already differs) taken
+      ≡ cond (hasFit x (begin store) before i) (cond (same message (firstFit x (begin store) before i)) already differing) taken
   told before message bytes made f =
       let i = index message in
       let here = run x (begin store) before in
@@ -164,7 +163,7 @@ module _ (x : Task) (store : List ℕ) where
       (λ still. fit-good x (begin store) message (subst (λ (s : State). fit x s message ≡ true) (run-still x (begin store) still before) f) none-above)
       (good-or-still x (begin store)) in
       let good = ran x before (begin store) begun .good in
-      let is : Bool → Reply = λ t. cond t (cond (same message (firstFit x (begin store) before i)) already differs) taken in
+      let is : Bool → Reply = λ t. cond t (cond (same message (firstFit x (begin store) before i)) already differing) taken in
       ⊎-elim
       (λ (t : hasFit x (begin store) before i ≡ true).
       reply-heard x here good message f (heard-is x store begun before i ∙ t) made (first-kept before bytes i t) ∙ sym (ap is t))
@@ -177,8 +176,8 @@ retried x = record {
   again = λ s none message made f h.
       let good = fit-good x s message f none in
       let kept = stored x s (index message) in
-      let told : reply x s (arrival message) ≡ cond (same message kept) already differs = reply-heard x s good message f h made refl in
-      let by : Bool → Reply = λ t. cond t already differs in (
+      let told : reply x s (arrival message) ≡ cond (same message kept) already differing = reply-heard x s good message f h made refl in
+      let by : Bool → Reply = λ t. cond t already differing in (
         (λ e. told ∙ ap by (ap (λ (l : List ℕ). same message l) (sym e) ∙ same-refl message)),
         (λ ne.
             ⊎-elim (λ (t : same message kept ≡ true). absurd (ne (same-eq message kept t))) (λ (e : same message kept ≡ false). told ∙ ap by e)

@@ -29,11 +29,11 @@ use Rattle.plan.proofs.Then.{plan-numbered}
 use Rattle.message.specs.Format.{elements}
 use Rattle.arrival_heard.specs.Heard.{isHeard, withHost, someAbove}
 use Rattle.arrival_heard.proofs.Bits.{with-own, with-other, with-below}
-use Rattle.arrival.specs.declared.Arrived.the-variants.{Taken, AlreadyIn, Refused}
+use Rattle.arrival.proofs.Outcomes.{arrived-by}
 use Rattle.arrival.specs.Arriving.{answerLength, storeLength, blockAt, withBlock, repeated, stateTests, againTests, arrivalTests, entered, storeEntered, arrived, storeAfter, heardAfter}
 use Rattle.promise.specs.Demand3.{Task, Call, arrival, decoding, State, arrives, after, fit, fitFor, bytes}
 use Rattle.promise.specs.Retried.{index}
-use Rattle.promise.proofs.Fits.{core, core-numbered, Passed, fit-passed, fit-core, arrival-core, FitMessage, fit-message}
+use Rattle.promise.proofs.Fits.{core, core-numbered, FitArrival, fit-arrival, fit-core, arrival-core, FitMessage, fit-message}
 use Rattle.promise.proofs.Blocks.{length-with, block-own, block-other}
 
 pub record Good (x : Task) (s : State) : Type 0 where
@@ -66,7 +66,7 @@ module _ (x : Task) (s : State) (message : List ℕ) where
   -- what the number n leaves, of a host that is heard or not
   left : ℕ → Bool → State
   left n h = record {
-    heard = heardAfter (s .heard) (outcome n (cond h AlreadyIn (Taken (withHost (s .heard) (index message)))) Refused);
+    heard = heardAfter (s .heard) (arrived-by (s .heard) message n h);
     store = outcome n (cond h (s .store) (withBlock (answerLength (x .job)) (s .store) (index message) (elements message))) (λ k. s .store);
   }
 
@@ -127,11 +127,11 @@ module _ (x : Task) (s : State) where
       (by-test (eqb first-tests 0))
 
   module _ (message : List ℕ) (f : fit x s message ≡ true) where
-    fit-has : Passed (x .job) (x .points) (s .heard) (s .store) message
+    fit-has : FitArrival (x .job) (x .points) (s .heard) (s .store) message
     unfolding fit
     fit-has =
         let n = first (except 21 (except 23 (arrivalTests (x .job) (x .points) (s .heard) (s .store) message))) in
-        fit-passed (x .job) (x .points) (s .heard) (s .store) message (eqb-true n 0 f)
+        fit-arrival (x .job) (x .points) (s .heard) (s .store) message (eqb-true n 0 f)
 
     pub passed : first (core (x .job) message) ≡ 0
     passed = fit-has .clear

@@ -8,7 +8,7 @@
 --   Agree x s cs         == no two fit messages of one host differ
 --   Among m ms           == m is one of ms
 --   Shuffled cs ds       == the same calls, each as often, in any order
---   taken, already, differs == what a fit arrival is told: taken, "already in", 23
+--   taken, already, differing == what a fit arrival is told: taken, "already in", 23
 --   Retried x            == the promises of U1 for a job
 --   RetriedUploads       == they hold for every job
 use mathlib.Core.Path.{_≡_}
@@ -57,8 +57,8 @@ taken = record { number = 0; already = false; table = [] }
 unfoldable pub already : Reply
 already = record { number = 0; already = true; table = [] }
 
-unfoldable pub differs : Reply
-differs = record { number = 23; already = false; table = [] }
+unfoldable pub differing : Reply
+differing = record { number = 23; already = false; table = [] }
 
 pub record Retried (x : Task) : Type 0 where
   -- "An arrival of a host already heard, whose message equals, byte for byte, what is stored for that host, now answers
@@ -67,7 +67,7 @@ pub record Retried (x : Task) : Type 0 where
   pub again : (s : State) → s .heard < 2 ^ x .job .hosts → (message : List ℕ) → AllBelow 256 message
       → fit x s message ≡ true → isHeard (s .heard) (index message) ≡ true
       → (message ≡ stored x s (index message) → reply x s (arrival message) ≡ already)
-      × ((message ≡ stored x s (index message) → ⊥) → reply x s (arrival message) ≡ differs)
+      × ((message ≡ stored x s (index message) → ⊥) → reply x s (arrival message) ≡ differing)
       × (after x s (arrival message) ≡ s)
   -- "and the first stays stored": a host's block after any list of calls; without a fit message, what it was at first
   pub holds : (store : List ℕ) (cs : List Call) (i : ℕ)
@@ -82,7 +82,7 @@ pub record Retried (x : Task) : Type 0 where
       → fit x (run x (begin store) before) message ≡ true
       → getD (replies x (begin store) (before ++ (arrival message ∷ rest))) (length before) unanswered
       ≡ cond (hasFit x (begin store) before (index message))
-      (cond (same message (firstFit x (begin store) before (index message))) already differs)
+      (cond (same message (firstFit x (begin store) before (index message))) already differing)
       taken
   -- "Where no two fit messages of one host differ, order of arrival still makes no difference to the hosts heard, the store": from
   -- any state on
