@@ -1,6 +1,6 @@
 //! Cases of the two share calls: fit ones of every shape, and refused ones.
 
-use crate::cases::draw::{draw_in_layout, nudged};
+use crate::cases::draw::{draw_in_layout, nudged, turn};
 use crate::cases::faults::{alone_and_in_pairs, border_elements, wrong_lengths, Expected, Fault};
 use crate::sheet::plan::{choose, prime, Job, Line};
 use crate::sheet::random::Random;
@@ -15,6 +15,9 @@ const SMALL: Line = [2, 4, 3, 2, 2, 1, 2, 2, 1, 10];
 /// The cuts of document 000's worked example: layout 2, K = 24.
 const EXAMPLE: Line = [3, 4, 3, 2, 2, 3, 2, 2, 3, 25];
 
+/// A job in layout 3 whose sizes all differ: K = 26, blocks of A 1 by 2, of B 2 by 3.
+const LAYOUT_3: Line = [2, 2, 4, 6, 2, 2, 2, 5, 6, 27];
+
 /// All cases whose refusal number is known from the way they are made.
 pub fn expected(random: &mut Random) -> Expected<Sharing> {
     let groups = [
@@ -22,9 +25,11 @@ pub fn expected(random: &mut Random) -> Expected<Sharing> {
         fillings(random),
         cuts_of_one_element(random),
         large_blocks(random),
+        every_host(random),
         hosts_and_points(random),
         random_fit(random),
         fault_pairs(random),
+        faults_in_layout_3(random),
         lengths(random),
         elements(random),
         points(random),
@@ -112,8 +117,8 @@ fn fill(elements: &mut [u32], q: u32, way: u32) {
     }
 }
 
-/// Blocks of one element: m p n = 8, cuts of 8, and the largest groups, with just K hosts; the
-/// first host and the last.
+/// Blocks of one element: m p n = 8, cuts of 8, the largest groups, layout 3 with K from 13 to 64, and
+/// ties, with just K hosts; the first host and the last.
 fn cuts_of_one_element(random: &mut Random) -> Expected<Sharing> {
     #[rustfmt::skip]
     let cuts = [
@@ -121,7 +126,8 @@ fn cuts_of_one_element(random: &mut Random) -> Expected<Sharing> {
         [4, 1, 2, 2, 1], [2, 4, 1, 3, 1], [2, 1, 4, 1, 3], [1, 4, 2, 2, 2], [1, 2, 4, 1, 1],
         [8, 6, 1, 1, 1], [6, 1, 8, 1, 1], [8, 4, 1, 1, 2], [1, 4, 8, 2, 1], [1, 1, 1, 16, 16],
         [1, 1, 1, 16, 1], [1, 1, 1, 1, 16], [2, 2, 3, 2, 2], [2, 2, 3, 5, 5], [3, 2, 2, 7, 7],
-        [2, 1, 2, 3, 1],
+        [2, 1, 2, 3, 1], [2, 1, 2, 3, 3], [2, 2, 2, 5, 5], [2, 3, 2, 7, 7], [2, 1, 8, 3, 16],
+        [8, 1, 2, 16, 3], [2, 5, 2, 11, 14], [2, 2, 5, 14, 11], [2, 2, 2, 4, 4], [3, 1, 2, 3, 3],
     ];
     let mut calls = Vec::new();
     for [m, p, n, x_a, x_b] in cuts {
@@ -162,12 +168,36 @@ fn large_blocks(random: &mut Random) -> Expected<Sharing> {
     calls
 }
 
+/// Both shares of every host of jobs in layout 3: the case of 02, U2, X_A above X_B, and X_B above X_A.
+fn every_host(random: &mut Random) -> Expected<Sharing> {
+    let lines = [
+        [2, 4, 4, 4, 2, 2, 2, 5, 5, 25],
+        [3, 2, 6, 4, 2, 3, 2, 8, 7, 38],
+        [3, 4, 2, 6, 2, 2, 2, 5, 8, 28],
+        [2, 6, 2, 2, 3, 2, 2, 9, 5, 38],
+    ];
+    let mut calls = Vec::new();
+    for line in lines {
+        assert_eq!(choose(&Job::of_line(&line)).number, 3);
+        for side in SIDES {
+            let mut call = drawn(random, side, line, 1);
+            call.points = distinct_points(random, line[9], q_of(&call));
+            let of_host = |host| Sharing {
+                host,
+                ..call.clone()
+            };
+            calls.extend((1..=line[9]).map(of_host).map(done));
+        }
+    }
+    calls
+}
+
 /// The first host and the last, with points 1..N, the highest points downwards, and random ones;
 /// job numbers 0 and 2^32 - 1.
 fn hosts_and_points(random: &mut Random) -> Expected<Sharing> {
     let mut calls = Vec::new();
     for side in SIDES {
-        for line in [SMALL, EXAMPLE, [1, 2, 2, 2, 1, 1, 2, 1, 1, 12]] {
+        for line in [SMALL, EXAMPLE, LAYOUT_3, [1, 2, 2, 2, 1, 1, 2, 1, 1, 12]] {
             for host in [1, line[9]] {
                 let mut call = drawn(random, side, line, host);
                 let q = q_of(&call);
@@ -197,7 +227,7 @@ pub fn distinct_points(random: &mut Random, count: u32, q: u32) -> Vec<u32> {
 
 /// Random jobs, the moduli, the layouts and the sides in turn.
 fn random_fit(random: &mut Random) -> Expected<Sharing> {
-    (0..160)
+    (0..224)
         .map(|round| done(draw_fit(random, round)))
         .collect()
 }
@@ -205,9 +235,9 @@ fn random_fit(random: &mut Random) -> Expected<Sharing> {
 /// A random call that is fit; the round decides on side, layout and modulus.
 fn draw_fit(random: &mut Random, round: u32) -> Sharing {
     let side = SIDES[round as usize % 2];
-    let modulus = round / 4 % 3 + 1;
+    let (modulus, number) = turn(round / 2);
     let most = if modulus == 1 { 12 } else { 40 };
-    let mut line = draw_in_layout(random, round / 2 % 2 == 0, |needed| needed <= most);
+    let mut line = draw_in_layout(random, number, |needed| needed <= most);
     let needed = choose(&Job::of_line(&line)).needed;
     line[0] = modulus;
     line[1..4]
@@ -220,7 +250,7 @@ fn draw_fit(random: &mut Random, round: u32) -> Sharing {
     call
 }
 
-/// The faults of a share of `SMALL`, in the order of the tests.
+/// The faults of a share of `SMALL`, or of its sizes with more hosts, in the order of the tests.
 const FAULTS: [Fault<Sharing>; 36] = [
     (1, |call| call.job.modulus = 0),
     (1, |call| call.job.modulus = 4),
@@ -249,7 +279,7 @@ const FAULTS: [Fault<Sharing>; 36] = [
     (10, |call| call.points[7] = 257),
     (11, |call| call.points[7] = 3),
     (12, |call| call.host = 0),
-    (12, |call| call.host = 11),
+    (12, |call| call.host = call.job.hosts + 1),
     (12, |call| call.host = u32::MAX),
     (13, |call| call.matrix.truncate(5)),
     (13, |call| call.masks.push(0)),
@@ -281,11 +311,26 @@ fn fault_pairs(random: &mut Random) -> Expected<Sharing> {
         .collect()
 }
 
+/// Each fault alone, for both sides of a job in layout 3 with the sizes of `SMALL`: K = 13 of 13 hosts.
+fn faults_in_layout_3(random: &mut Random) -> Expected<Sharing> {
+    let bases = SIDES.map(|side| drawn(random, side, [2, 4, 3, 2, 2, 1, 2, 3, 3, 13], 2));
+    let pairs = bases
+        .iter()
+        .flat_map(|base| FAULTS.map(|fault| (base, fault)));
+    pairs
+        .map(|(base, (number, fault))| {
+            let mut call = base.clone();
+            fault(&mut call);
+            (call, number)
+        })
+        .collect()
+}
+
 /// Matrix, masks and output of wrong lengths.
 fn lengths(random: &mut Random) -> Expected<Sharing> {
     let mut calls = Vec::new();
     for [side, other] in [[Side::A, Side::B], [Side::B, Side::A]] {
-        for line in [SMALL, EXAMPLE] {
+        for line in [SMALL, EXAMPLE, LAYOUT_3] {
             let base = drawn(random, side, line, line[9]);
             let foreign = drawn(random, other, line, line[9]);
             calls.extend(wrong_lists(&base, &foreign));
@@ -379,7 +424,12 @@ fn large_plans(random: &mut Random) -> Expected<Sharing> {
         (Side::A, [2, 1, 1, 1, 1, 1, 1, 1, 1, 65], 7),
         (Side::B, [2, 4, 3, 4, 4, 3, 4, 2, 2, 64], 8),
         (Side::A, [3, 3, 2, 2, 3, 2, 2, 7, 7, 38], 0),
-        (Side::B, [3, 3, 2, 2, 3, 2, 2, 7, 7, 37], 8),
+        (Side::A, [3, 3, 2, 2, 3, 2, 2, 7, 7, 37], 0),
+        (Side::B, [3, 3, 2, 2, 3, 2, 2, 7, 7, 37], 0),
+        (Side::B, [3, 3, 2, 2, 3, 2, 2, 7, 7, 36], 8),
+        (Side::A, [2, 4, 4, 4, 2, 2, 2, 5, 5, 24], 8),
+        (Side::A, [2, 4, 4, 16386, 2, 2, 2, 5, 5, 25], 2),
+        (Side::B, [2, 16386, 4, 4, 2, 2, 2, 5, 5, 25], 2),
     ];
     lines
         .into_iter()
@@ -390,7 +440,7 @@ fn large_plans(random: &mut Random) -> Expected<Sharing> {
 /// All cases whose outcome is only computed: fit calls with a number of the job, or the host,
 /// changed a little.
 pub fn computed(random: &mut Random) -> Vec<Sharing> {
-    (0..60)
+    (0..80)
         .map(|round| {
             let mut call = draw_fit(random, round);
             call.job = Job::of_line(&nudged(random, call.job.line()));

@@ -2,7 +2,7 @@
 
 use super::faults::{last_of, limits, spoilt, HEARD, SMALL};
 use crate::calls::shares::distinct_points;
-use crate::cases::draw::draw_in_layout;
+use crate::cases::draw::{draw_in_layout, turn};
 use crate::cases::faults::{border_elements, Expected, Fault};
 use crate::sheet::decode::decode;
 use crate::sheet::job_call::{Act, JobCall};
@@ -20,6 +20,8 @@ pub fn expected(random: &mut Random) -> Expected<JobCall> {
         limits(Act::Decode),
         every_group(random),
         any_answers(random),
+        every_number(random),
+        every_fit_group(random),
     ];
     groups.concat()
 }
@@ -133,49 +135,99 @@ fn heard_numbers(random: &mut Random) -> Expected<JobCall> {
     HEARD.map(call).to_vec()
 }
 
-/// Every group out of five hosts, three being needed, with anything in the blocks of the others:
-/// the table is A times B for each group of at least three.
+/// A decoding of the true products of some hosts, with anything in the blocks of the others: the table
+/// is A times B if at least K are heard, else 24 is due.
+fn heard_truly(random: &mut Random, whole: &WholeJob, heard: u64) -> (JobCall, u32) {
+    let mut call = whole.call(Act::Decode);
+    call.heard = heard;
+    call.store = random.words(call.store.len());
+    for host in call.heard_hosts() {
+        let block = call.block(host);
+        call.store[block].copy_from_slice(&whole.products[host as usize - 1]);
+    }
+    if call.heard_hosts().len() < whole.needed {
+        return (call, 24);
+    }
+    assert_eq!(decode(&call).as_ref(), Ok(&whole.table));
+    (call, 0)
+}
+
+/// A job with random contents and points.
+fn draw_whole(random: &mut Random, line: Line) -> WholeJob {
+    let q = prime(line[0]).expect("a modulus number");
+    let points = distinct_points(random, line[9], q);
+    WholeJob::drawn(random, line, points)
+}
+
+/// Every group out of five hosts, three being needed.
 fn every_group(random: &mut Random) -> Expected<JobCall> {
     let mut calls = Vec::new();
-    for (modulus, q) in [(1, 13), (2, 257), (3, 65537)] {
-        let points = distinct_points(random, 5, q);
-        let whole = WholeJob::drawn(random, [modulus, 1, 2, 2, 1, 1, 1, 1, 1, 5], points);
-        for heard in 0..32_u64 {
-            let mut call = whole.call(Act::Decode);
-            call.heard = heard;
-            call.store = random.words(call.store.len());
-            for host in call.heard_hosts() {
-                let block = call.block(host);
-                call.store[block].copy_from_slice(&whole.products[host as usize - 1]);
-            }
-            let enough = call.heard_hosts().len() >= 3;
-            if enough {
-                assert_eq!(decode(&call).as_ref(), Ok(&whole.table));
-            }
-            calls.push((call, if enough { 0 } else { 24 }));
+    for modulus in 1..=3 {
+        let whole = draw_whole(random, [modulus, 1, 2, 2, 1, 1, 1, 1, 1, 5]);
+        assert_eq!(whole.needed, 3);
+        calls.extend((0..32).map(|heard| heard_truly(random, &whole, heard)));
+    }
+    calls
+}
+
+/// Jobs in layout 3 over q = 257 and 65537, X_A equal to X_B, above it and below it: every number of
+/// hosts is heard, from none to all.
+fn every_number(random: &mut Random) -> Expected<JobCall> {
+    let lines = [
+        [4, 4, 4, 2, 2, 2, 5, 5, 26],
+        [4, 2, 2, 2, 2, 2, 6, 5, 28],
+        [2, 2, 4, 2, 2, 2, 5, 7, 28],
+        [3, 2, 2, 3, 2, 2, 7, 7, 38],
+    ];
+    let lines = lines.map(|[t, s, r, m, p, n, x_a, x_b, hosts]| {
+        [2, 3].map(|modulus| [modulus, t, s, r, m, p, n, x_a, x_b, hosts])
+    });
+    let mut calls = Vec::new();
+    for line in lines.concat() {
+        let whole = draw_whole(random, line);
+        assert_eq!(choose(&whole.job).number, 3);
+        for count in 0..=line[9] as usize {
+            let hosts = &random.order(line[9])[..count];
+            let heard = hosts.iter().map(|host| 1 << (host - 1)).sum();
+            calls.push(heard_truly(random, &whole, heard));
         }
+    }
+    calls
+}
+
+/// Every group of at least 13 out of 15 hosts, for jobs with the smallest K that layout 3 has, 13.
+fn every_fit_group(random: &mut Random) -> Expected<JobCall> {
+    let mut calls = Vec::new();
+    for modulus in [2, 3] {
+        let whole = draw_whole(random, [modulus, 2, 1, 2, 2, 1, 2, 3, 3, 15]);
+        assert_eq!((choose(&whole.job).number, whole.needed), (3, 13));
+        let groups = (0..1_u64 << 15).filter(|heard| heard.count_ones() >= 13);
+        calls.extend(groups.map(|heard| heard_truly(random, &whole, heard)));
     }
     calls
 }
 
 /// Random jobs with any hosts heard, any elements as answers, and anything in the other blocks.
 fn any_answers(random: &mut Random) -> Expected<JobCall> {
-    (0..90).map(|round| any_answer(random, round)).collect()
+    (0..120).map(|round| any_answer(random, round)).collect()
 }
 
 /// One of these; the round decides on layout and modulus.
 fn any_answer(random: &mut Random, round: u32) -> (JobCall, u32) {
-    let modulus = round % 3 + 1;
-    let most = if modulus == 1 { 12 } else { 20 };
-    let mut line = draw_in_layout(random, round / 3 % 2 == 0, |needed| needed <= most);
+    let (modulus, number) = turn(round);
+    let most = match (modulus, number) {
+        (1, _) => 12,
+        (_, 3) => 32,
+        _ => 20,
+    };
+    let mut line = draw_in_layout(random, number, |needed| needed <= most);
     let needed = choose(&Job::of_line(&line)).needed;
     line[0] = modulus;
     line[1] *= random.within(1, 2);
     line[3] *= random.within(1, 2);
     line[9] = random.within(needed, most.min(needed + 6));
-    let q = prime(modulus).expect("a modulus number");
-    let points = distinct_points(random, line[9], q);
-    let mut call = WholeJob::drawn(random, line, points).call(Act::Decode);
+    let whole = draw_whole(random, line);
+    let mut call = whole.call(Act::Decode);
     call.heard = u64::MAX >> (64 - line[9]);
     for host in &random.order(line[9])[needed as usize..] {
         call.heard ^= u64::from(random.within(0, 2) > 0) << (host - 1);
@@ -183,7 +235,7 @@ fn any_answer(random: &mut Random, round: u32) -> (JobCall, u32) {
     call.store = random.words(call.store.len());
     for host in call.heard_hosts() {
         let block = call.block(host);
-        let elements = random.elements(block.len(), q);
+        let elements = random.elements(block.len(), whole.q);
         call.store[block].copy_from_slice(&elements);
     }
     (call, 0)

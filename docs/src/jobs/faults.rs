@@ -80,7 +80,7 @@ pub fn spoilt(base: &JobCall, own: &[Fault<JobCall>]) -> Expected<JobCall> {
 /// Jobs at the limits of a plan, points 1..N, with the number that is due; those that are fit have
 /// answers of one element. The plan of the last four is accepted, but they need a longer store
 /// than a case can give.
-const LIMITS: [(Line, u32); 22] = [
+const LIMITS: [(Line, u32); 25] = [
     ([1, 1, 1, 1, 1, 1, 1, 1, 1, 12], 0),
     ([1, 1, 1, 1, 1, 1, 1, 1, 1, 13], 7),
     ([1, 1, 1, 1, 1, 1, 1, 1, 1, 3], 0),
@@ -89,7 +89,10 @@ const LIMITS: [(Line, u32); 22] = [
     ([2, 1, 1, 1, 1, 1, 1, 1, 1, 65], 7),
     ([2, 4, 3, 4, 4, 3, 4, 2, 2, 64], 8),
     ([3, 3, 2, 2, 3, 2, 2, 7, 7, 38], 0),
-    ([3, 3, 2, 2, 3, 2, 2, 7, 7, 37], 8),
+    ([3, 3, 2, 2, 3, 2, 2, 7, 7, 37], 0),
+    ([3, 3, 2, 2, 3, 2, 2, 7, 7, 36], 8),
+    ([2, 2, 2, 2, 2, 2, 2, 5, 5, 25], 0),
+    ([2, 2, 2, 2, 2, 2, 2, 5, 5, 24], 8),
     ([3, 65, 1, 64, 1, 1, 1, 1, 1, 3], 6),
     ([2, 4097, 1, 1, 1, 1, 1, 1, 1, 3], 6),
     ([2, 1, 1, 4097, 1, 1, 1, 1, 1, 3], 6),

@@ -29,25 +29,26 @@ use format::{word, Files, ALREADY_IN};
 #[rustfmt::skip]
 const FLOORS: &Floors = &[
     ("arrival", &[
-        (0, 2570), (1, 92), (2, 95), (3, 40), (4, 38), (5, 37), (6, 79), (7, 36), (8, 37), (9, 33),
-        (10, 31), (11, 30), (12, 185), (13, 174), (14, 72), (16, 54), (17, 182), (18, 52),
-        (19, 59), (20, 137), (21, 131), (22, 309), (23, 741), (ALREADY_IN, 351),
+        (0, 3487), (1, 112), (2, 107), (3, 40), (4, 38), (5, 37), (6, 80), (7, 36), (8, 38),
+        (9, 33), (10, 31), (11, 30), (12, 198), (13, 197), (14, 89), (16, 55), (17, 197), (18, 63),
+        (19, 63), (20, 163), (21, 139), (22, 373), (23, 779), (ALREADY_IN, 499),
     ]),
     ("decoding", &[
-        (0, 629), (1, 28), (2, 28), (3, 27), (4, 25), (5, 24), (6, 27), (7, 23), (8, 24), (9, 20),
-        (10, 18), (11, 17), (13, 287), (14, 52), (21, 78), (24, 620),
+        (0, 1016), (1, 28), (2, 28), (3, 27), (4, 25), (5, 24), (6, 27), (7, 23), (8, 25), (9, 20),
+        (10, 18), (11, 17), (13, 362), (14, 52), (21, 91), (24, 927),
     ]),
-    ("store told", &[(0, 1196)]),
+    ("store told", &[(0, 1390)]),
 ];
 
-/// Checks the program, then writes the cases to one file and their outcomes to the other.
+/// Checks the program, then writes the cases to one file and their outcomes to the other. The first
+/// stories have a generator of their own: the other calls do not change with them.
 pub fn write_files(stdin_file: &str, stdout_file: &str) {
     plan_check::run();
-    let random = &mut Random::new(2028);
     let mut files = Files::new();
-    for call in stories::told(random) {
+    for call in stories::told(&mut Random::new(2028)) {
         files.add(&call);
     }
+    let random = &mut Random::new(0x21eb_020a_0a63_69db);
     for call in expected(arrivals::expected(random)) {
         files.add(&call);
     }
@@ -62,7 +63,7 @@ pub fn write_files(stdin_file: &str, stdout_file: &str) {
     }
     files.tell();
     hold(&files.counts, FLOORS);
-    assert!(files.cases.len() < 2_200_000 && files.outcomes.len() < 800_000);
+    assert!(files.cases.len() < 2_700_000 && files.outcomes.len() < 900_000);
     save(stdin_file, &files.cases);
     save(stdout_file, &files.outcomes);
 }

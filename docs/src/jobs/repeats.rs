@@ -148,7 +148,7 @@ fn places(random: &mut Random) -> Expected<JobCall> {
 /// All stories: jobs with few hosts, the moduli and the layouts in turn.
 pub fn told(random: &mut Random) -> Vec<JobCall> {
     let mut calls = Vec::new();
-    for round in 0..6 {
+    for round in 0..8 {
         let whole = draw_small(random, round);
         calls.extend(sent_again(random, &whole, true));
         calls.extend(sent_again(random, &whole, false));

@@ -9,7 +9,7 @@
 use super::format::BUFFER;
 use super::story::Story;
 use crate::calls::shares::distinct_points;
-use crate::cases::draw::draw_in_layout;
+use crate::cases::draw::{draw_in_layout, turn};
 use crate::sheet::job_call::{Act, JobCall};
 use crate::sheet::message::{message, Fields};
 use crate::sheet::plan::{choose, prime, Job, Line};
@@ -59,33 +59,38 @@ fn checked_by_hand(random: &mut Random) -> Vec<JobCall> {
     calls
 }
 
-/// Jobs with few hosts, the moduli and the layouts in turn; in each fourth two hosts are false.
+/// Jobs with few hosts, the moduli and the layouts in turn; in each fifth two hosts are false.
 fn small_jobs(random: &mut Random) -> Vec<JobCall> {
     let mut calls = Vec::new();
-    for round in 0..72 {
+    for round in 0..96 {
         let whole = draw_small(random, round);
-        let liars = if round % 4 == 1 { 2 } else { 0 };
+        let liars = if round % 5 == 1 { 2 } else { 0 };
         calls.extend(disturbed(random, &whole, liars, 24));
     }
     calls
 }
 
-/// A random job with at most 16 hosts; the round decides on modulus, layout and the kind of points.
+/// A random job with few hosts; the round decides on modulus, layout and the kind of points.
 pub fn draw_small(random: &mut Random, round: u32) -> WholeJob {
     let line = small_line(random, round);
-    let points = draw_points(random, line, round / 6);
+    let points = draw_points(random, line, round / 8);
     WholeJob::drawn(random, line, points)
 }
 
-/// A random plan with at most 16 hosts; the round decides on modulus and layout.
+/// A random plan with at most 16 hosts, in layout 3 with at most 20; the round decides on modulus and
+/// layout.
 pub fn small_line(random: &mut Random, round: u32) -> Line {
-    let modulus = round % 3 + 1;
-    let most = if modulus == 1 { 12 } else { 16 };
-    let mut line = draw_in_layout(random, round / 3 % 2 == 0, |needed| needed <= most);
+    let (modulus, number) = turn(round);
+    let most = match (modulus, number) {
+        (1, _) => 12,
+        (_, 3) => 20,
+        _ => 16,
+    };
+    let mut line = draw_in_layout(random, number, |needed| needed <= most);
     let needed = choose(&Job::of_line(&line)).needed;
     line[0] = modulus;
     line[9] = random.within(needed, most.min(needed + 3));
-    let largest = if round % 8 == 3 { 7 } else { 3 };
+    let largest = if round % 9 == 3 { 7 } else { 3 };
     for size in &mut line[1..4] {
         *size *= random.within(1, largest);
     }
@@ -286,8 +291,9 @@ fn wrong_table(random: &mut Random, story: &mut Story) {
     story.changes_nothing(call, 13);
 }
 
-/// The sheet's example of 17 answers out of 20, document 000's worked example in layout 2, the
-/// largest groups kept ignorant, and jobs with up to 64 hosts; up to two hosts are false.
+/// The sheet's example of 17 answers out of 20, document 000's worked example in layout 2, the case of
+/// 02, U2, in layout 3 and others with X_A above X_B and below it, the largest groups kept ignorant,
+/// and jobs with up to 64 hosts; up to two hosts are false.
 fn large_groups(random: &mut Random) -> Vec<JobCall> {
     let lines = [
         [2, 4, 4, 4, 2, 2, 2, 2, 2, 20],
@@ -298,6 +304,11 @@ fn large_groups(random: &mut Random) -> Vec<JobCall> {
         [2, 2, 2, 3, 2, 2, 3, 2, 2, 63],
         [3, 1, 1, 2, 1, 1, 1, 1, 1, 64],
         [2, 8, 6, 1, 8, 6, 1, 1, 1, 64],
+        [2, 4, 4, 4, 2, 2, 2, 5, 5, 25],
+        [3, 2, 4, 6, 2, 2, 2, 7, 5, 29],
+        [2, 4, 2, 2, 2, 2, 2, 5, 6, 28],
+        [3, 2, 3, 4, 2, 3, 2, 7, 8, 38],
+        [2, 2, 5, 4, 2, 5, 2, 14, 11, 64],
     ];
     let mut calls = Vec::new();
     for (i, line) in lines.into_iter().enumerate() {

@@ -180,7 +180,7 @@ fn padded(line: &[u8], length: usize, byte: u8) -> Vec<u8> {
 
 /// Lines with one byte replaced, put in or taken out at random; some stay well-formed.
 pub fn damaged(random: &mut Random, lines: &[Vec<u8>]) -> Vec<Vec<u8>> {
-    (0..20)
+    (0..40)
         .map(|_| {
             let line = lines[random.index(lines.len())].clone();
             damage(random, line)

@@ -1,10 +1,12 @@
 //! The subcommand `lister`: gathers the lister's cases, checks them, writes them with the replies.
 //!
 //!   plans      lines of ten numbers: accepted plans and near misses
+//!   layouts    lines about the choice of a layout
 //!   malformed  inputs that are no such line
 //!   format     the file format of cases and replies
 
 mod format;
+mod layouts;
 pub mod malformed;
 mod plans;
 
@@ -19,13 +21,18 @@ use format::{distinct, framed};
 const EXAMPLE_REPLY: &str = "MODULUS 257\nLAYOUT 1\nHOSTS 20\nNEEDED 17\n\
     A 0 1 6 7 | 10 11\nB 1 3 0 2 | 4 5\nC 1 3 7 9\n";
 
+/// The reply to 02's case in layout 3, with 25 hosts.
+const LAYOUT_3_REPLY: &str = "MODULUS 257\nLAYOUT 3\nHOSTS 25\nNEEDED 25\n\
+    A 0 1 4 5 | 8 9 10 11 12\nB 1 3 0 2 | 8 9 10 11 12\nC 1 3 5 7\n";
+
 /// The numbers that the lister can give, with the least count of cases.
 #[rustfmt::skip]
 const FLOORS: &Floors = &[
-    ("layout 1", &[(0, 137)]),
-    ("layout 2", &[(0, 79)]),
+    ("layout 1", &[(0, 251)]),
+    ("layout 2", &[(0, 133)]),
+    ("layout 3", &[(0, 540)]),
     ("refused", &[
-        (1, 42), (2, 41), (3, 38), (4, 28), (5, 30), (6, 32), (7, 27), (8, 35), (26, 180),
+        (1, 46), (2, 45), (3, 44), (4, 33), (5, 50), (6, 33), (7, 33), (8, 295), (26, 193),
     ]),
 ];
 
@@ -33,6 +40,8 @@ const FLOORS: &Floors = &[
 pub fn write_files(stdin_file: &str, stdout_file: &str) {
     plan_check::run();
     assert_eq!(reply(b"2 4 4 4 2 2 2 2 2 20\n"), EXAMPLE_REPLY);
+    assert_eq!(reply(b"2 4 4 4 2 2 2 5 5 25\n"), LAYOUT_3_REPLY);
+    assert_eq!(reply(b"2 4 4 4 2 2 2 5 5 24\n"), refused(8));
     let inputs = gathered();
     let replies: Vec<String> = inputs.iter().map(|input| reply(input)).collect();
     inputs.iter().for_each(|input| reads_back(input));
@@ -46,7 +55,7 @@ pub fn write_files(stdin_file: &str, stdout_file: &str) {
 /// All inputs, each once.
 fn gathered() -> Vec<Vec<u8>> {
     let mut random = Random::new(2026);
-    let mut inputs: Vec<Vec<u8>> = expected_plans();
+    let mut inputs: Vec<Vec<u8>> = expected_plans(&mut random);
     inputs.extend(plans::computed(&mut random).iter().map(text));
     assert!(inputs.iter().all(|input| reply(input) != refused(26)));
     let damaged = malformed::damaged(&mut random, &inputs);
@@ -57,9 +66,10 @@ fn gathered() -> Vec<Vec<u8>> {
 
 /// The plans that are made to get a certain refusal number or to be accepted; panics if one
 /// gets another reply.
-fn expected_plans() -> Vec<Vec<u8>> {
+fn expected_plans(random: &mut Random) -> Vec<Vec<u8>> {
     let mut inputs = Vec::new();
-    for (line, number) in plans::expected() {
+    let cases = [plans::expected(random), layouts::expected(random)].concat();
+    for (line, number) in cases {
         let input = text(&line);
         assert_eq!(kind(&reply(&input)).1, number, "{line:?}");
         inputs.push(input);
@@ -93,6 +103,7 @@ fn kind(reply: &str) -> (&'static str, u32) {
     match value("LAYOUT ") {
         1 => ("layout 1", 0),
         2 => ("layout 2", 0),
+        3 => ("layout 3", 0),
         _ => ("refused", value("REFUSED ")),
     }
 }

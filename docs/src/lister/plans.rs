@@ -1,7 +1,14 @@
 //! Lister cases that are ten well-formed numbers: every limit from both sides, faults in pairs,
-//! both layouts, ties, random plans and near misses.
+//! random plans in each layout and near misses.
+//!
+//!   EXAMPLE       the sheet's example
+//!   Expected      a line and the refusal number that it must get
+//!   with          a line with one number changed
+//!   at_threshold  a line with K hosts and with one fewer
+//!   expected      all cases whose reply kind is known from the way they are made
+//!   computed      all cases whose reply is only computed
 
-use crate::cases::draw::{draw_cut, draw_in_layout, nudged};
+use crate::cases::draw::{draw_in_layout, nudged};
 use crate::sheet::listing::{reply, text};
 use crate::sheet::plan::{choose, refusal, Job, Line};
 use crate::sheet::plan_check::all_cuts;
@@ -35,8 +42,18 @@ pub fn with(line: Line, field: usize, value: u32) -> Line {
     changed
 }
 
+/// The line with as many hosts as are needed, and with one fewer; with 64 where that is too few.
+pub fn at_threshold(line: Line) -> Vec<Expected> {
+    let needed = choose(&Job::of_line(&line)).needed;
+    let hosts = |hosts, number| (with(line, HOSTS, hosts), number);
+    if needed > 64 {
+        return vec![hosts(64, 8)];
+    }
+    vec![hosts(needed, 0), hosts(needed - 1, 8)]
+}
+
 /// All cases whose reply kind is known from the way they are made.
-pub fn expected() -> Vec<Expected> {
+pub fn expected(random: &mut Random) -> Vec<Expected> {
     let groups = [
         checked_by_hand(),
         cut_limits(),
@@ -46,19 +63,14 @@ pub fn expected() -> Vec<Expected> {
         block_limits(),
         fault_pairs(),
         extremes(),
+        threshold_sides(random),
     ];
     groups.concat()
 }
 
 /// All cases whose reply is only computed.
 pub fn computed(random: &mut Random) -> Vec<Line> {
-    let groups = [
-        sweeps(),
-        threshold_sides(random),
-        ties_and_margins(random),
-        random_accepted(random),
-        near_misses(random),
-    ];
+    let groups = [sweeps(), random_accepted(random), near_misses(random)];
     groups.concat()
 }
 
@@ -75,7 +87,8 @@ fn checked_by_hand() -> Vec<Expected> {
         ([3, 4, 3, 4, 4, 3, 4, 2, 2, 64], 8),
         ([3, 3, 2, 2, 3, 2, 2, 7, 7, 38], 0),
         ([3, 3, 2, 2, 3, 2, 2, 7, 7, 43], 0),
-        ([3, 3, 2, 2, 3, 2, 2, 7, 7, 37], 8),
+        ([3, 3, 2, 2, 3, 2, 2, 7, 7, 37], 0),
+        ([3, 3, 2, 2, 3, 2, 2, 7, 7, 36], 8),
         ([1, 2, 1, 2, 2, 1, 2, 3, 1, 10], 0),
         ([1, 2, 1, 2, 2, 1, 2, 3, 1, 9], 8),
         ([1, 2, 1, 2, 2, 1, 2, 3, 1, 12], 0),
@@ -232,7 +245,7 @@ fn disjoint(one: &Fault, two: &Fault) -> bool {
 /// The largest and smallest lines: all equal numbers, the largest matrices, and for each layout
 /// the accepted plan with the longest reply.
 fn extremes() -> Vec<Expected> {
-    vec![
+    let mut list = vec![
         ([0; 10], 1),
         ([99999; 10], 1),
         ([1; 10], 8),
@@ -248,22 +261,23 @@ fn extremes() -> Vec<Expected> {
         ([3, 1, 1, 1, 1, 1, 1, 16, 16, 33], 0),
         ([3, 1, 1, 1, 1, 1, 1, 16, 16, 32], 8),
         ([2, 8, 1, 1, 8, 1, 1, 16, 16, 64], 0),
-        (longest(1), 0),
-        (longest(2), 0),
-    ]
+    ];
+    list.extend(longest().map(|line| (line, 0)));
+    list
 }
 
-/// The accepted cut of a layout whose listing has the most bytes.
-fn longest(number: u32) -> Line {
-    let cuts = all_cuts(&(1..=16).collect::<Vec<u32>>()).into_iter();
-    let chosen = cuts.filter(|job| {
-        let layout = choose(job);
-        layout.number == number && layout.needed <= 64
-    });
-    let lines = chosen.map(|job| job.line());
-    lines
-        .max_by_key(|line| reply(&text(line)).len())
-        .expect("no cut fits")
+/// For each layout the accepted cut whose listing has the most bytes.
+fn longest() -> [Line; 3] {
+    let mut longest = [(0, EXAMPLE); 3];
+    for job in all_cuts() {
+        let (layout, line) = (choose(&job), job.line());
+        if layout.needed <= 64 {
+            let length = reply(&text(&line)).len();
+            let so_far = &mut longest[layout.number as usize - 1];
+            *so_far = (*so_far).max((length, line));
+        }
+    }
+    longest.map(|(_, line)| line)
 }
 
 /// Each field of the example set to values that a shorter number type would mix up.
@@ -273,59 +287,40 @@ fn sweeps() -> Vec<Line> {
     (0..10).flat_map(changed).collect()
 }
 
-/// The recovery threshold of a line's chosen layout.
-fn needed(line: &Line) -> u32 {
-    choose(&Job::of_line(line)).needed
-}
-
-/// Plans at both sides of test 8, the two layouts in turn.
-fn threshold_sides(random: &mut Random) -> Vec<Line> {
+/// Plans at both sides of test 8, the layouts in turn: N = K and N = K - 1, K = 64 and K = 65 for 64
+/// hosts, and K = 12 and K = 13 over q = 13 with 12 hosts, for the layouts with which this goes.
+fn threshold_sides(random: &mut Random) -> Vec<Expected> {
     let mut list = Vec::new();
-    for round in 0..6 {
-        let first = round % 2 == 0;
-        list.extend(sides(random, first));
-        list.extend([12, 13].map(|k| small_field(random, first, k)));
+    for round in 0..9 {
+        let number = round % 3 + 1;
+        list.extend(at_threshold(draw_in_layout(random, number, |k| k <= 64)));
+        list.push((draw_in_layout(random, number, |k| k == 64), 0));
+        list.push((draw_in_layout(random, number, |k| k == 65), 8));
+        if number < 3 {
+            list.push((small_field(random, number, 12), 0));
+            list.push((small_field(random, number, 13), 8));
+        }
     }
     list
-}
-
-/// A plan with N = K, the same with N = K - 1, and plans with K = 64 and K = 65 for 64 hosts.
-fn sides(random: &mut Random, first: bool) -> [Line; 4] {
-    let line = draw_in_layout(random, first, |needed| needed <= 64);
-    let k = needed(&line);
-    let full = draw_in_layout(random, first, |needed| needed == 64);
-    let over = draw_in_layout(random, first, |needed| needed == 65);
-    [with(line, HOSTS, k), with(line, HOSTS, k - 1), full, over]
 }
 
 /// A plan over q = 13 with 12 hosts and the given K.
-fn small_field(random: &mut Random, first: bool, k: u32) -> Line {
-    let line = draw_in_layout(random, first, |needed| needed == k);
+fn small_field(random: &mut Random, number: u32, needed: u32) -> Line {
+    let line = draw_in_layout(random, number, |k| k == needed);
     with(with(line, MODULUS, 1), HOSTS, 12)
 }
 
-/// Plans with equal thresholds, and plans where one layout is better by just 1.
-fn ties_and_margins(random: &mut Random) -> Vec<Line> {
-    let mut list = Vec::new();
-    for _ in 0..7 {
-        list.push(draw_cut(random, |one, two| one == two && one <= 64));
-        list.push(draw_cut(random, |one, two| one == two + 1 && two <= 64));
-        list.push(draw_cut(random, |one, two| one + 1 == two && one <= 64));
-    }
-    list
-}
-
-/// Accepted plans with blocks of many sizes, the two layouts in turn.
+/// Accepted plans with blocks of many sizes, the layouts in turn.
 fn random_accepted(random: &mut Random) -> Vec<Line> {
-    (0..80)
-        .map(|round| draw_accepted(random, round % 2 == 0))
+    (0..120)
+        .map(|round| draw_accepted(random, round % 3 + 1))
         .collect()
 }
 
-/// A random accepted plan in layout 1, or else in layout 2.
-fn draw_accepted(random: &mut Random, first: bool) -> Line {
-    let line = draw_in_layout(random, first, |needed| needed <= 64);
-    let k = needed(&line);
+/// A random accepted plan in a layout.
+fn draw_accepted(random: &mut Random, number: u32) -> Line {
+    let line = draw_in_layout(random, number, |needed| needed <= 64);
+    let k = choose(&Job::of_line(&line)).needed;
     let lowest = if k <= 12 { 1 } else { 2 };
     let modulus = random.within(lowest, 3);
     let hosts = random.within(k, if modulus == 1 { 12 } else { 64 });
@@ -349,14 +344,14 @@ fn scaled(random: &mut Random, line: Line) -> Line {
 
 /// Accepted plans with one number changed a little, or two.
 fn near_misses(random: &mut Random) -> Vec<Line> {
-    (0..45)
-        .map(|round| draw_near_miss(random, round % 2 == 0, round % 3 == 0))
+    (0..90)
+        .map(|round| draw_near_miss(random, round % 3 + 1, round / 3 % 3 == 0))
         .collect()
 }
 
 /// An accepted plan with one random number nudged, or two of them.
-fn draw_near_miss(random: &mut Random, first: bool, twice: bool) -> Line {
-    let accepted = draw_accepted(random, first);
+fn draw_near_miss(random: &mut Random, number: u32, twice: bool) -> Line {
+    let accepted = draw_accepted(random, number);
     let once = nudged(random, accepted);
     if twice {
         nudged(random, once)

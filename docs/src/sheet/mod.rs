@@ -1,7 +1,7 @@
 //! The sheet's calls, worked out from the papers.
 //!
 //!   random       a small deterministic generator with a fixed seed
-//!   plan         the tests of a plan, both layouts, the recovery threshold K, the choice
+//!   plan         the tests of a plan, the three layouts, the recovery threshold K, the choice
 //!   plan_check   the plan against brute force and against the values checked by hand
 //!   listing      the plan lister's text in and out
 //!   share        the shares of A and of B

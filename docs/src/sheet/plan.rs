@@ -1,11 +1,13 @@
-//! The plan of a job (01, "The job", "Exponents" and "What is turned down").
+//! The plan of a job (01, "The job", "Exponents" and "What is turned down"; 02, U2).
 //!
-//!   Line       a job's numbers as the lister reads them
-//!   Job        the public numbers that the plan's tests look at
-//!   prime      the modulus q of a modulus number
-//!   refusal    the first of the numbers 1 to 11 that fits a job and its evaluation points
-//!   Layout     the exponents of blocks and masks, the places of C, the recovery threshold K
-//!   choose     the layout that is used
+//!   Line        a job's numbers as the lister reads them
+//!   Job         the public numbers that the plan's tests look at
+//!   prime       the modulus q of a modulus number
+//!   refusal     the first of the numbers 1 to 11 that fits a job and its evaluation points
+//!   Layout      the exponents of blocks and masks, the places of C, the recovery threshold K
+//!   layouts     the three layouts, by number
+//!   thresholds  the recovery thresholds of the three
+//!   choose      the layout that is used
 
 /// The ten numbers that the lister reads: modulus number, t, s, r, m, p, n, X_A, X_B, N.
 pub type Line = [u32; 10];
@@ -147,7 +149,7 @@ pub struct Layout {
 }
 
 /// Layout 1: document 000, equations 16 (A), 17 (B), 18 (the degree K - 1) and 20 (places of C).
-pub fn layout_one(job: &Job) -> Layout {
+fn layout_one(job: &Job) -> Layout {
     let Job {
         m, p, n, x_a, x_b, ..
     } = *job;
@@ -165,7 +167,7 @@ pub fn layout_one(job: &Job) -> Layout {
 
 /// Layout 2: document 000, equations 21 (A) and 22 (B) and the threshold given below them; the
 /// places of C are the sheet's.
-pub fn layout_two(job: &Job) -> Layout {
+fn layout_two(job: &Job) -> Layout {
     let Job {
         m, p, n, x_a, x_b, ..
     } = *job;
@@ -181,19 +183,47 @@ pub fn layout_two(job: &Job) -> Layout {
     }
 }
 
-/// The layout with the smaller recovery threshold, at a tie layout 1.
-pub fn choose(job: &Job) -> Layout {
-    let (one, two) = (layout_one(job), layout_two(job));
-    if two.needed < one.needed {
-        two
-    } else {
-        one
+/// Layout 3: 02, U2. Document 001, corollary 1, has its threshold for groups of one size, and lemma
+/// 2 there the exponents.
+fn layout_three(job: &Job) -> Layout {
+    let Job {
+        m, p, n, x_a, x_b, ..
+    } = *job;
+    Layout {
+        number: 3,
+        a_blocks: grid(m, p, |k, l| (k - 1) * n * p + l - 1),
+        a_masks: series(x_a, |x| m * p * n + x - 1),
+        b_blocks: grid(p, n, |l, j| (j - 1) * p + p - l),
+        b_masks: series(x_b, |x| m * p * n + x - 1),
+        places: grid(m, n, |k, j| (k - 1) * n * p + j * p - 1),
+        needed: 2 * m * p * n + x_a + x_b - 1,
     }
+}
+
+/// The three layouts, by number.
+pub fn layouts(job: &Job) -> [Layout; 3] {
+    [layout_one(job), layout_two(job), layout_three(job)]
+}
+
+/// The recovery thresholds of the three layouts, by number.
+pub fn thresholds(job: &Job) -> [u32; 3] {
+    layouts(job).map(|layout| layout.needed)
+}
+
+/// The layout with the smallest recovery threshold, at a tie the lowest number.
+pub fn choose(job: &Job) -> Layout {
+    let [mut chosen, two, three] = layouts(job);
+    for other in [two, three] {
+        if other.needed < chosen.needed {
+            chosen = other;
+        }
+    }
+    chosen
 }
 
 /// The values of a formula over a grid of blocks, row by row, both indices from 1.
 fn grid(rows: u32, columns: u32, formula: impl Fn(u32, u32) -> u32) -> Vec<u32> {
-    let cells = (1..=rows).flat_map(|row| (1..=columns).map(move |column| (row, column)));
+    let cells = (0..rows * columns).map(|i| (i / columns + 1, i % columns + 1));
     cells.map(|(row, column)| formula(row, column)).collect()
 }
 

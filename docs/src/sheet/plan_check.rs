@@ -1,15 +1,30 @@
-//! The plan checked: against brute force over the exponents, and against the values that the
-//! sheet has checked by hand.
+//! The plan checked: against brute force over the exponents, against the values that the sheet has
+//! checked by hand, and against the papers' tables.
+//!
+//!   TABLE_IV  thresholds of document 004
+//!   run       checks the plan
+//!   cut       a job that matters only for its exponents
+//!   all_cuts  all of them
 
-use super::plan::{choose, layout_one, layout_two, refusal, Job, Layout};
+use super::plan::{choose, layouts, refusal, thresholds, Job, Layout};
+
+/// Document 004, table IV, as far as the sheet's limits go: p, m, n, the size of both groups, and K.
+#[rustfmt::skip]
+pub const TABLE_IV: [[u32; 5]; 12] = [
+    [2, 2, 2, 2, 17], [2, 2, 2, 5, 25], [2, 2, 3, 2, 23], [2, 2, 3, 5, 32], [2, 3, 2, 2, 23],
+    [2, 3, 2, 7, 37], [3, 2, 2, 7, 37], [3, 4, 4, 2, 69], [4, 3, 3, 2, 55], [4, 5, 5, 2, 131],
+    [5, 4, 4, 2, 109], [5, 5, 5, 2, 161],
+];
 
 /// Panics unless the plan agrees with everything below.
 pub fn run() {
     hand_values();
+    table_iv();
     point_tests();
-    for cut in all_cuts(&[1, 2, 3, 5, 7, 16]) {
-        sound(&cut, &layout_one(&cut));
-        sound(&cut, &layout_two(&cut));
+    for cut in all_cuts() {
+        let layouts = layouts(&cut);
+        choice(&cut, layouts.each_ref().map(|layout| layout.needed));
+        layouts.iter().for_each(|layout| sound(&cut, layout));
     }
 }
 
@@ -29,43 +44,76 @@ pub fn cut(m: u32, p: u32, n: u32, x_a: u32, x_b: u32) -> Job {
     }
 }
 
-/// All cuts with m, p, n in 1..8 and both X out of a list.
-pub fn all_cuts(xs: &[u32]) -> Vec<Job> {
-    let masks: Vec<(u32, u32)> = xs
-        .iter()
-        .flat_map(|&a| xs.iter().map(move |&b| (a, b)))
-        .collect();
-    let sizes = (0..512).map(|i| (i / 64 + 1, i / 8 % 8 + 1, i % 8 + 1));
-    let pairs = sizes.flat_map(|size| masks.iter().map(move |&mask| (size, mask)));
-    pairs
-        .map(|((m, p, n), (x_a, x_b))| cut(m, p, n, x_a, x_b))
-        .collect()
+/// All cuts: m, p, n in 1..8 and both X in 1..16.
+pub fn all_cuts() -> impl Iterator<Item = Job> {
+    let sizes = (0..512).map(|i| [i / 64 + 1, i / 8 % 8 + 1, i % 8 + 1]);
+    let masks = |i: u32| [i / 16 + 1, i % 16 + 1];
+    let pairs = sizes.flat_map(move |size| (0..256).map(move |i| (size, masks(i))));
+    pairs.map(|([m, p, n], [x_a, x_b])| cut(m, p, n, x_a, x_b))
 }
 
-/// The thresholds and layouts of 01, "Checked by hand", and document 000's worked example.
+/// The thresholds and layouts of 01, "Checked by hand", and of 02, U2; document 000's worked example;
+/// and ties between layouts 2 and 3 and between all three.
 fn hand_values() {
-    threshold(cut(1, 1, 1, 1, 1), 3, 3);
-    threshold(cut(2, 2, 3, 2, 2), 23, 23);
-    threshold(cut(2, 2, 3, 5, 5), 32, 35);
-    threshold(cut(4, 3, 4, 2, 2), 69, 69);
-    threshold(cut(3, 2, 2, 7, 7), 43, 38);
-    threshold(cut(2, 1, 2, 3, 1), 10, 12);
-    threshold(cut(2, 3, 2, 2, 3), 25, 24);
+    threshold(cut(1, 1, 1, 1, 1), [3, 3, 3], 1);
+    threshold(cut(2, 2, 3, 2, 2), [23, 23, 27], 1);
+    threshold(cut(2, 2, 3, 5, 5), [32, 35, 33], 1);
+    threshold(cut(4, 3, 4, 2, 2), [69, 69, 99], 1);
+    threshold(cut(3, 2, 2, 7, 7), [43, 38, 37], 3);
+    threshold(cut(2, 1, 2, 3, 1), [10, 12, 11], 1);
+    threshold(cut(2, 2, 2, 5, 5), [26, 26, 25], 3);
+    threshold(cut(2, 3, 2, 2, 3), [25, 24, 28], 2);
+    threshold(cut(3, 1, 2, 3, 3), [19, 17, 17], 2);
+    threshold(cut(2, 2, 2, 4, 4), [23, 23, 23], 1);
+    let hosts: Vec<u32> = (1..=64).collect();
+    assert_eq!(refusal(&cut(4, 3, 4, 2, 2), &hosts), Some(8));
+}
+
+/// Panics unless the layouts have these thresholds and the one with this number is chosen.
+fn threshold(job: Job, needed: [u32; 3], number: usize) {
+    assert_eq!(thresholds(&job), needed);
+    let chosen = choose(&job);
     assert_eq!(
-        refusal(&cut(4, 3, 4, 2, 2), &(1..=64).collect::<Vec<u32>>()),
-        Some(8)
+        (chosen.number as usize, chosen.needed),
+        (number, needed[number - 1])
     );
 }
 
-/// Panics unless the two layouts have these thresholds and the smaller is chosen.
-fn threshold(job: Job, one: u32, two: u32) {
-    assert_eq!(
-        (layout_one(&job).needed, layout_two(&job).needed),
-        (one, two)
-    );
-    let chosen = choose(&job);
-    assert_eq!(chosen.number, if two < one { 2 } else { 1 });
-    assert_eq!(chosen.needed, one.min(two));
+/// Panics unless the chosen layouts have the thresholds of document 004.
+fn table_iv() {
+    for [p, m, n, x, needed] in TABLE_IV {
+        assert_eq!(choose(&cut(m, p, n, x, x)).needed, needed);
+    }
+}
+
+/// Panics unless the chosen layout has the smallest threshold, at a tie the lowest number; layouts 1
+/// and 3 tie just where m = 1 or X_B = np, layouts 2 and 3 just where n = 1 or X_A = mp; layout 3 is
+/// chosen just where both groups are larger than that and m and n are not 1, and then needs 13; and
+/// groups of one size have the threshold of document 001, corollary 1.
+fn choice(job: &Job, [one, two, three]: [u32; 3]) {
+    let Job {
+        m, p, n, x_a, x_b, ..
+    } = *job;
+    let number = match () {
+        _ if one <= two && one <= three => 1,
+        _ if two <= three => 2,
+        _ => 3,
+    };
+    let chosen = choose(job);
+    assert_eq!(chosen.number, number);
+    assert_eq!(chosen.needed, one.min(two).min(three));
+    assert_eq!(one == three, m == 1 || x_b == n * p);
+    assert_eq!(two == three, n == 1 || x_a == m * p);
+    assert_eq!(number == 3, m > 1 && n > 1 && x_b > n * p && x_a > m * p);
+    assert!(number < 3 || three >= 13);
+    if x_a == x_b {
+        let corollary = [
+            (m + 1) * (n * p + x_a) - 1,
+            (n + 1) * (m * p + x_a) - 1,
+            2 * m * p * n + 2 * x_a - 1,
+        ];
+        assert_eq!(Some(&chosen.needed), corollary.iter().min());
+    }
 }
 
 /// The tests on evaluation points, which no lister case can reach.
@@ -122,23 +170,13 @@ fn side(blocks: &[u32], masks: &[u32]) {
 
 /// For each sum from 0 to the largest, how many pairs of an A and a B exponent have it.
 fn pairs_at_each_sum(layout: &Layout) -> Vec<u32> {
-    let a: Vec<u32> = layout
-        .a_blocks
-        .iter()
-        .chain(&layout.a_masks)
-        .copied()
-        .collect();
-    let b: Vec<u32> = layout
-        .b_blocks
-        .iter()
-        .chain(&layout.b_masks)
-        .copied()
-        .collect();
-    let sums = || {
-        a.iter()
-            .flat_map(|x| b.iter().map(move |y| (x + y) as usize))
-    };
-    let mut pairs = vec![0; sums().max().unwrap_or(0) + 1];
-    sums().for_each(|sum| pairs[sum] += 1);
+    let of_side = |blocks: &[u32], masks: &[u32]| [blocks, masks].concat();
+    let a = of_side(&layout.a_blocks, &layout.a_masks);
+    let b = of_side(&layout.b_blocks, &layout.b_masks);
+    let largest = |exponents: &[u32]| exponents.iter().copied().max().unwrap_or(0);
+    let mut pairs = vec![0; (largest(&a) + largest(&b)) as usize + 1];
+    for x in &a {
+        b.iter().for_each(|y| pairs[(x + y) as usize] += 1);
+    }
     pairs
 }

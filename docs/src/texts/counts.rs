@@ -5,10 +5,9 @@
 use std::ops::Range;
 
 use super::job_text::{sectioned, Case, JobText, Parts};
-use super::jobs::drawn;
+use super::jobs::{drawn, IN_EACH_LAYOUT};
 use super::printed::{count_line, JOB_NUMBERS};
 use super::sections::{lines, WORDS};
-use crate::jobs::faults::SMALL;
 use crate::sheet::random::Random;
 use crate::sheet::whole_job::Contents;
 
@@ -37,9 +36,9 @@ fn few_in_job() -> Vec<Case> {
     cases.collect()
 }
 
-/// Jobs in both layouts.
-fn bases(random: &mut Random) -> [JobText; 2] {
-    [SMALL, [3, 3, 4, 4, 3, 2, 2, 7, 7, 38]].map(|line| drawn(random, line, 0))
+/// A job in each layout.
+fn bases(random: &mut Random) -> [JobText; 3] {
+    IN_EACH_LAYOUT.map(|line| drawn(random, line, 0))
 }
 
 /// The lists that differ from a list by one number, at the front and at the end, or are empty or
@@ -56,7 +55,7 @@ fn miscounted(numbers: &[u32]) -> [Vec<u32>; 6] {
     ]
 }
 
-/// Jobs in both layouts with one section short or long. Any number of answers is fit.
+/// Jobs in each layout with one section short or long. Any number of answers is fit.
 fn one_section(random: &mut Random) -> Vec<Case> {
     let mut cases = Vec::new();
     for job in bases(random) {
@@ -86,7 +85,7 @@ fn with(parts: &Parts, section: usize, numbers: Vec<u32>) -> Vec<u8> {
     sectioned(&parts)
 }
 
-/// Jobs in both layouts with a number moved from one section to the next or the one after, or back:
+/// Jobs in each layout with a number moved from one section to the next or the one after, or back:
 /// the first section is told.
 fn two_sections(random: &mut Random) -> Vec<Case> {
     let mut cases = Vec::new();

@@ -1,8 +1,9 @@
-//! Texts of jobs that are carried out: all moduli, both layouts, sizes at the program's limits, and
+//! Texts of jobs that are carried out: all moduli, all layouts, sizes at the program's limits, and
 //! answers in any order, some of them late, repeated or from hosts that the job has not.
 //!
-//!   jobs   all of them
-//!   drawn  a job with random contents
+//!   IN_EACH_LAYOUT  a plan in each layout
+//!   jobs            all of them
+//!   drawn           a job with random contents
 
 use super::job_text::{Case, JobText};
 use crate::jobs::faults::SMALL;
@@ -10,6 +11,13 @@ use crate::jobs::stories::{draw_points, small_line};
 use crate::sheet::plan::{choose, prime, Job, Line};
 use crate::sheet::random::Random;
 use crate::sheet::whole_job::Contents;
+
+/// A plan in each layout, layout 1 first: K is 9, 24 and 37.
+pub const IN_EACH_LAYOUT: [Line; 3] = [
+    SMALL,
+    [3, 4, 3, 2, 2, 3, 2, 2, 3, 25],
+    [3, 3, 4, 4, 3, 2, 2, 7, 7, 38],
+];
 
 /// All texts of jobs that are carried out.
 pub fn jobs(random: &mut Random) -> Vec<Case> {
@@ -97,17 +105,17 @@ fn signed_ends() -> Vec<Case> {
 }
 
 /// Jobs with few hosts, the moduli and the layouts in turn, every other text strewn; in each
-/// fourth the order is cut short.
+/// fifth the order is cut short.
 fn small_jobs(random: &mut Random) -> Vec<Case> {
     let mut cases = Vec::new();
-    for round in 0..72 {
+    for round in 0..96 {
         let line = small_line(random, round);
-        let mut job = drawn(random, line, round / 6);
+        let mut job = drawn(random, line, round / 8);
         job.order = disturbed(random, line[9]);
-        if round % 4 == 3 {
+        if round % 5 == 3 {
             job.order.truncate(random.index(job.order.len()));
         }
-        let text = match round / 6 % 2 {
+        let text = match round / 8 % 2 {
             0 => job.text(),
             _ => job.strewn_text(random),
         };
@@ -139,8 +147,9 @@ fn disturbed(random: &mut Random, hosts: u32) -> Vec<u32> {
     order
 }
 
-/// The sheet's example, document 000's worked example in layout 2, the largest groups kept
-/// ignorant, and jobs that need up to 64 answers.
+/// The sheet's example, document 000's worked example in layout 2, the case of 02, U2, in layout 3 and
+/// others with X_A above X_B and below it, the largest groups kept ignorant, and jobs that need up to
+/// 64 answers.
 fn large_groups(random: &mut Random) -> Vec<Case> {
     let lines = [
         [2, 4, 4, 4, 2, 2, 2, 2, 2, 20],
@@ -153,6 +162,12 @@ fn large_groups(random: &mut Random) -> Vec<Case> {
         [2, 8, 6, 1, 8, 6, 1, 1, 1, 64],
         [3, 14, 2, 21, 7, 1, 7, 1, 1, 63],
         [2, 14, 2, 21, 7, 1, 7, 1, 2, 64],
+        [2, 4, 4, 4, 2, 2, 2, 5, 5, 25],
+        [3, 2, 6, 4, 2, 2, 2, 7, 5, 29],
+        [2, 4, 4, 6, 2, 2, 2, 5, 6, 28],
+        [3, 4, 6, 4, 2, 3, 2, 7, 8, 38],
+        [2, 2, 5, 4, 2, 5, 2, 14, 11, 64],
+        [3, 2, 2, 5, 2, 2, 5, 11, 14, 64],
     ];
     let mut cases = Vec::new();
     for (kind, line) in (0..).zip(lines) {
@@ -225,6 +240,7 @@ fn large_blocks(random: &mut Random) -> Vec<Case> {
         ([2, 7, 1, 151, 1, 1, 1, 1, 1, 31], false),
         ([3, 16, 2, 32, 1, 1, 1, 1, 1, 64], false),
         ([3, 56, 2, 56, 7, 1, 7, 1, 1, 64], false),
+        ([2, 64, 2, 64, 2, 2, 2, 5, 6, 32], false),
         ([2, 15416, 1, 1, 8, 1, 1, 1, 1, 17], false),
         ([2, 1, 1, 15416, 1, 1, 8, 1, 1, 17], false),
         ([2, 1, 8000, 1, 1, 8, 1, 1, 1, 17], false),

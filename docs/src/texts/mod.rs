@@ -33,7 +33,7 @@ use printed::printed;
 
 /// The kinds of all that is printed; there must be a text for each.
 #[rustfmt::skip]
-const KINDS: [&str; 43] = [
+const KINDS: [&str; 45] = [
     "expected the end of the text", "expected the word A", "expected the word ANSWERS",
     "expected the word B", "expected the word JOB", "expected the word MASKS_A",
     "expected the word MASKS_B", "expected the word POINTS", "job too large", "no number",
@@ -43,8 +43,9 @@ const KINDS: [&str; 43] = [
     "section JOB long", "section JOB short", "section MASKS_A long", "section MASKS_A short",
     "section MASKS_B long", "section MASKS_B short", "section POINTS long", "section POINTS short",
     "share refused 14", "share refused 15", "table of 13, layout 1", "table of 13, layout 2",
-    "table of 257, layout 1", "table of 257, layout 2", "table of 65537, layout 1",
-    "table of 65537, layout 2", "table refused 24", "text too long",
+    "table of 257, layout 1", "table of 257, layout 2", "table of 257, layout 3",
+    "table of 65537, layout 1", "table of 65537, layout 2", "table of 65537, layout 3",
+    "table refused 24", "text too long",
 ];
 
 /// The most texts.

@@ -4,11 +4,10 @@
 //!   changed  texts with a byte or a number changed, whatever becomes of them
 
 use super::job_text::{tokens, Case, JobText};
-use super::jobs::drawn;
+use super::jobs::{drawn, IN_EACH_LAYOUT};
 use super::printed::fault_line;
 use super::sections::{Fault, Position, WORDS};
 use crate::cases::draw::nudged;
-use crate::jobs::faults::SMALL;
 use crate::jobs::stories::small_line;
 use crate::lister::malformed::damage;
 use crate::sheet::random::Random;
@@ -22,7 +21,7 @@ pub fn short(random: &mut Random) -> Vec<Case> {
         cases.push(beginning(&smallest, kept, b' '));
         cases.push(beginning(&smallest, kept, b'\r'));
     }
-    for line in [SMALL, [3, 3, 4, 4, 3, 2, 2, 7, 7, 38]] {
+    for line in IN_EACH_LAYOUT {
         let job = drawn(random, line, 0);
         let all = tokens(&job.parts());
         let words = (0..all.len()).filter(|&at| !all[at][0].is_ascii_digit());
@@ -60,10 +59,10 @@ fn beginning(job: &JobText, kept: usize, gap: u8) -> Case {
 /// Texts of small jobs with a byte or a number of the plan changed by chance.
 pub fn changed(random: &mut Random) -> Vec<Vec<u8>> {
     let mut texts = Vec::new();
-    for round in 0..300 {
+    for round in 0..400 {
         let line = small_line(random, round);
         let mut job = drawn(random, line, 0);
-        if round % 2 == 0 {
+        if round / 8 % 2 == 0 {
             texts.push(damage(random, job.text()));
         } else {
             job.line = nudged(random, line);
