@@ -30,7 +30,7 @@ plan-side A job = refl
 plan-side B job = refl
 
 pub side-small : (m : Matrix) (job : Job) → Fits job → Small (side m job)
-unfolding side
+unfolding side parameters
 side-small A job f =
     let r = f .ranged in
     let size = sizes job f in
