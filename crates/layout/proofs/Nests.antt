@@ -16,7 +16,7 @@ use Rattle.layout.specs.declared.Series.the-variants.{BlocksA, MasksA, B
 use Rattle.layout.specs.declared.Strides.{Strides}
 use Rattle.layout.specs.declared.Nest.{Nest}
 use Rattle.layout.specs.declared.Layout.the-variants.{First, Second}
-use Rattle.layout.specs.Exponents.{Exponents, exponents, layout1, layout2, layout3, strideD, strideE, blocksEnd, term}
+use Rattle.layout.specs.Exponents.{Exponents, exponents, layout1, layout2, layout3, strideD, strideE, term}
 use Rattle.layout.specs.Contracts.{exponentBy, Follows, Nested}
 
 pub small-stride : (i p x : ℕ) → i < 2 ^ 8 → p < 2 ^ 8 → x < 2 ^ 8 → i * p + x < 2 ^ 16
@@ -74,7 +74,7 @@ module _ (g : Parameters) (s : Nest) where
 pub follows-third : (g : Parameters) (stride blocks needed : ℕ) → stride ≡ g .n * g .p + 0 → blocks ≡ g .m * stride + 0
     → needed ≡ blocks + blocks + g .xa + g .xb - 1 → blocks < 2 ^ 25
     → Follows (record { «stride_a» = stride; «mask_a» = blocks; «stride_b» = g .p; «mask_b» = blocks; p = g .p; needed = needed }) g (layout3 g)
-unfolding layout3 blocksEnd
+unfolding layout3
 follows-third g stride blocks needed is-stride is-blocks is-needed small =
     let row : g .n * g .p ≡ stride = omega arith in
     let all : g .m * (g .n * g .p) ≡ blocks = ap (λ (d : ℕ). g .m * d) row ∙ omega arith in

@@ -16,7 +16,7 @@ use Rattle.algebra.proofs.Orders.{le-or-lt}
 use Rattle.layout.specs.declared.Parameters.{Parameters}
 use Rattle.layout.specs.declared.Layout.{Layout}
 use Rattle.layout.specs.declared.Layout.the-variants.{First, Second, Third}
-use Rattle.layout.specs.Exponents.{exponents, layout1, layout2, layout3, strideD, strideE, blocksEnd}
+use Rattle.layout.specs.Exponents.{exponents, layout1, layout2, layout3, strideD, strideE}
 use Rattle.layout.specs.Sound.{Cut, Sound, Threshold}
 
 digits : (d a b u v : ℕ) → u < d → v < d → a * d + u ≡ b * d + v → (a ≡ b) × (u ≡ v)
@@ -147,7 +147,7 @@ module _ (g : Parameters) (cut : Cut g) where
   place-low u v hu hv = omega (arith, rows u (g .m) (g .n * g .p) hu, last-row (g .m) (g .n * g .p) (cut .m), in-row g cut v hv)
 
   pub sound3 : Sound g (layout3 g)
-  unfolding layout3 blocksEnd layout1 strideD bare row
+  unfolding layout3 layout1 strideD bare row
   sound3 =
       let s = sound1 (bare g) (cut-bare g cut) in
       let all = last-row (g .m) row (cut .m) in

@@ -57,19 +57,19 @@ layout2 g = record {
   needed = (g .n + 1) * strideE g + g .xb - g .xa - 1;
 }
 
--- mpn: the masks of both sides follow all sums of blocks
-unfoldable pub blocksEnd : Parameters → ℕ
-blocksEnd g = g .m * (g .n * g .p)
-
+-- both sides' masks follow all sums of blocks
 unfoldable pub layout3 : Parameters → Exponents
-layout3 g = record {
-  blockA = λ k l. k * (g .n * g .p) + l;
-  maskA = λ x. blocksEnd g + x;
-  blockB = λ l j. j * g .p + (g .p - 1 - l);
-  maskB = λ x. blocksEnd g + x;
-  place = λ k j. k * (g .n * g .p) + ((j + 1) * g .p - 1);
-  needed = 2 * blocksEnd g + g .xa + g .xb - 1;
-}
+layout3 g =
+    let np = g .n * g .p in
+    let mpn = g .m * np in
+    record {
+      blockA = λ k l. k * np + l;
+      maskA = λ x. mpn + x;
+      blockB = λ l j. j * g .p + (g .p - 1 - l);
+      maskB = λ x. mpn + x;
+      place = λ k j. k * np + ((j + 1) * g .p - 1);
+      needed = 2 * mpn + g .xa + g .xb - 1;
+    }
 
 unfoldable pub exponents : Layout → Parameters → Exponents
 exponents First = layout1
