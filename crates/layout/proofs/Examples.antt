@@ -9,7 +9,7 @@
 --   choices       the number of the layout that is used: of the first two the better, of three at a tie the first or the second,
 --                 and the third
 use mathlib.Core.Path.{_≡_, refl}
-use mathlib.Core.List.{List, [], _∷_, _++_, map}
+use mathlib.Core.List.{[], _∷_, _++_, map}
 use Prim.Native.Nat.{ℕ}
 use Rattle.algebra.specs.Lists.{tab, grid}
 use Rattle.layout.specs.declared.Parameters.{Parameters}

@@ -6,6 +6,7 @@
 --   sound3           layout 3, whose blocks are those of layout 1 with no mask between
 --   sound            every layout
 --   threshold        K is one more than the largest sum
+--   place-below      in a sound layout every place is below K
 use mathlib.Core.Path.{_≡_, refl, sym, ap, _∙_}
 use mathlib.Core.Logic.{⊎-elim}
 use Prim.Native.Nat.{ℕ, suc, _+_, _-_, _*_, _/_, _%_, _<_, _≤_}
@@ -16,7 +17,7 @@ use Rattle.algebra.proofs.Orders.{le-or-lt}
 use Rattle.layout.specs.declared.Parameters.{Parameters}
 use Rattle.layout.specs.declared.Layout.{Layout}
 use Rattle.layout.specs.declared.Layout.the-variants.{First, Second, Third}
-use Rattle.layout.specs.Exponents.{exponents, layout1, layout2, layout3, strideD, strideE}
+use Rattle.layout.specs.Exponents.{Exponents, exponents, layout1, layout2, layout3, strideD, strideE}
 use Rattle.layout.specs.Sound.{Cut, Sound, Threshold}
 
 digits : (d a b u v : ℕ) → u < d → v < d → a * d + u ≡ b * d + v → (a ≡ b) × (u ≡ v)
@@ -181,3 +182,6 @@ unfolding exponents layout1 layout2 layout3 strideD strideE over
 threshold First g cut ha hb = record { bounded = sound1 g cut .bounded; reached = reached1 g cut ha hb }
 threshold Second g cut ha hb = record { bounded = sound2 g cut .bounded; reached = omega (arith, reached1 (over g) (cut-over g cut) hb ha) }
 threshold Third g cut ha hb = record { bounded = sound3 g cut .bounded; reached = omega arith }
+
+pub place-below : (g : Parameters) (e : Exponents) → Cut g → Sound g e → (k j : ℕ) → k < g .m → j < g .n → e .place k j < e .needed
+place-below g e cut s k j hk hj = omega (arith, s .meet k 0 j hk (cut .p) hj, s .bounded .below k 0 0 j hk (cut .p) (cut .p) hj)

@@ -13,7 +13,7 @@ use Rattle.algebra.proofs.Orders.{le-or-lt}
 use Rattle.refusal.proofs.Limits.{Within}
 use Rattle.layout.specs.Exponents.{exponents}
 use Rattle.layout.specs.Sound.{Cut, Sound}
-use Rattle.layout.proofs.Soundness.{sound}
+use Rattle.layout.proofs.Soundness.{sound, place-below as sound-place}
 use Rattle.plan.specs.declared.Job.{Job}
 use Rattle.plan.specs.Planning.{parameters, blockRows, blockInner, blockColumns, layoutOf, neededOf}
 use Rattle.plan.proofs.Facts.{Fits}
@@ -66,7 +66,4 @@ job-sound job f = sound (layoutOf job) (parameters job) (job-cut job f)
 
 pub place-below : (job : Job) → Fits job → (k j : ℕ) → k < job .m → j < job .n → exponents (layoutOf job) (parameters job) .place k j < neededOf job
 unfolding parameters neededOf
-place-below job f k j hk hj =
-    let p : 0 < job .p = f .ranged .p .low in
-    let s = job-sound job f in
-    omega (arith, s .meet k 0 j hk p hj, s .bounded .below k 0 0 j hk p p hj)
+place-below job f = sound-place (parameters job) _ (job-cut job f) (job-sound job f)

@@ -28,6 +28,7 @@ use Rattle.promise.proofs.ExactSums.{whole, Expands, expands-sum}
 use Rattle.promise.proofs.ExactPlaces.{valueA, valueB, places, places-expand, places-meet}
 
 module _ (g : Parameters) (rows inner columns : ℕ) (e : Exponents) (a ma b mb : List ℕ) (i v : ℕ) where
+  -- the sides of A and of B
   abbrev sideA : Side
   sideA = cutSide A g rows inner columns
 
