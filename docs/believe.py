@@ -14,7 +14,7 @@ from pathlib import Path
 
 TOP = Path(__file__).resolve().parent.parent
 PAGE = TOP / "docs" / "BELIEVE.md"
-ROOTS = [("promise", f"Demand{n}", f"Demand{n}") for n in (1, 2, 3)] + [("promise", "Retried", "RetriedUploads")]
+ROOTS = [("promise", f"Demand{n}", f"Demand{n}") for n in (1, 2, 3)] + [("promise", "Retried", "RetriedUploads"), ("promise", "Layouts", "Layouts")]
 MOST_LINES = 600
 RELATION = re.compile(r"[≡≤<↔≈]")
 
@@ -169,9 +169,10 @@ def page():
     text = [
         "# What must be believed",
         "",
-        "The three demands are the records `Demand1`, `Demand2` and `Demand3`, and request U1 is the record `Retried` (`crates/promise/specs`). Who wants to",
-        "see that they say what the papers say reads the definitions and the statements below, each file after those that it uses, and needs nothing else. All",
-        "else in `specs/` is how the code does it, in files named `Contracts`, or what is promised beside these. Everything in `proofs/` is checked by the prover.",
+        "The three demands are the records `Demand1`, `Demand2` and `Demand3`; of the requests, U1 is the record `Retried` and U2 the record `Layouts`",
+        "(`crates/promise/specs`). Who wants to see that they say what the papers say reads the definitions and the statements below, each file after those that",
+        "it uses, and needs nothing else. All else in `specs/` is how the code does it, in files named `Contracts`, or what is promised beside these. Everything",
+        "in `proofs/` is checked by the prover.",
         "",
         f"{statements[1]} statements in {statements[2]} lines, made of {definitions[1]} definitions in {definitions[2]} lines and {types[1]} structs and enums of the code in {types[2]} lines.",
         "Comments are not counted. `docs/believe.py` writes this page from the files, and the gate checks that it is true.",
@@ -201,7 +202,7 @@ def main():
             sys.exit("believe: docs/BELIEVE.md is not what docs/believe.py writes")
         if MOST_LINES < total:
             sys.exit(f"believe: the definitions have {total} lines, and should have at most {MOST_LINES}")
-        print(text.split("\n")[6])
+        print(text.split("\n")[7])
     elif sys.argv[1:]:
         sys.exit(__doc__)
     else:

@@ -13,7 +13,7 @@ use Rattle.algebra.specs.Lists.{tab, allBelow, same}
 use Rattle.refusal.specs.Chain.{first, outcome, unlessRefused, outside}
 use Rattle.refusal.specs.Limits.{anyOutside, sizesOutside, overBlock}
 use Rattle.field.specs.Modulus.{moduli, modulus, noModulus}
-use Rattle.layout.specs.Exponents.{strideD, layout1, strideE, layout2, exponents, better, choice}
+use Rattle.layout.specs.Exponents.{strideD, layout1, strideE, layout2, layout3, exponents, better, choice}
 use Rattle.plan.specs.declared.Job.{Job}
 use Rattle.plan.specs.Planning.{parameters, prime, blockRows, blockInner, blockColumns, layoutOf, neededOf, rangeTests, fitTests}
 use Rattle.plan.specs.Planning.{member, pointTestsAt, allPointTests, pointTests, planTests}
@@ -45,5 +45,5 @@ values : told 1 4 (9 ∷ 8 ∷ []) ∷ told 1 4 (7 ∷ 8 ∷ []) ∷ told 2 4 (7
     ∷ (23 ∷ 0 ∷ 2 ∷ 1 ∷ 2 ∷ 7 ∷ 8 ∷ 5 ∷ 6 ∷ [])
     ∷ (22 ∷ 0 ∷ 2 ∷ 1 ∷ 2 ∷ 7 ∷ 8 ∷ 5 ∷ 6 ∷ [])
     ∷ []
-unfolding tab allBelow same first outcome unlessRefused outside anyOutside sizesOutside overBlock moduli modulus noModulus strideD layout1 strideE layout2 exponents better choice parameters prime blockRows blockInner blockColumns layoutOf neededOf rangeTests fitTests member pointTestsAt allPointTests pointTests planTests bigEndian numberAt bytesOf elementsOf mark version header headerOf elementCount fieldTests headerTests messageOf payload elements elementTest messageTests isHeard withHost someAbove answerLength storeLength blockAt withBlock hostIndex foreign repeated stateTests answerTests againTests arrivalTests entered storeEntered arrived storeAfter
+unfolding tab allBelow same first outcome unlessRefused outside anyOutside sizesOutside overBlock moduli modulus noModulus strideD layout1 strideE layout2 layout3 exponents better choice parameters prime blockRows blockInner blockColumns layoutOf neededOf rangeTests fitTests member pointTestsAt allPointTests pointTests planTests bigEndian numberAt bytesOf elementsOf mark version header headerOf elementCount fieldTests headerTests messageOf payload elements elementTest messageTests isHeard withHost someAbove answerLength storeLength blockAt withBlock hostIndex foreign repeated stateTests answerTests againTests arrivalTests entered storeEntered arrived storeAfter
 values = refl

@@ -2,4 +2,4 @@
 pub mod Examples
 pub mod Nests
 pub mod Soundness
-pub mod Layouts
+pub mod Choice

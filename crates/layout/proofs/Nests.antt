@@ -4,20 +4,19 @@
 --   less-one                    one row less
 --   follows-first               layout 1 has A outside
 --   follows-second              layout 2 has B outside
+--   follows-third               layout 3 has its masks last
 --   exponent-is                 the strides' exponents are the layout's
---   first-chosen, second-chosen the choice, by the two numbers of answers needed
 use mathlib.Core.Path.{_≡_, refl, sym, ap, _∙_}
 use Prim.Native.Nat.{ℕ, zero, suc, _+_, _-_, _*_, _^_, _<_, _≤_}
 use native.Mathlib.Nat.{mul-le-mul, mod-eq-of-lt}
 use native.Mathlib.Omega.{arith}
-use borrow.Author.Tests.{le-leb, lt-leb}
 use Rattle.layout.specs.declared.Parameters.{Parameters}
 use Rattle.layout.specs.declared.Series.{Series}
 use Rattle.layout.specs.declared.Series.the-variants.{BlocksA, MasksA, BlocksB, MasksB, Places}
 use Rattle.layout.specs.declared.Strides.{Strides}
 use Rattle.layout.specs.declared.Nest.{Nest}
 use Rattle.layout.specs.declared.Layout.the-variants.{First, Second}
-use Rattle.layout.specs.Exponents.{Exponents, exponents, layout1, layout2, strideD, strideE, better, choice, term}
+use Rattle.layout.specs.Exponents.{Exponents, exponents, layout1, layout2, layout3, strideD, strideE, term}
 use Rattle.layout.specs.Contracts.{exponentBy, Follows, Nested}
 
 pub small-stride : (i p x : ℕ) → i < 2 ^ 8 → p < 2 ^ 8 → x < 2 ^ 8 → i * p + x < 2 ^ 16
@@ -72,6 +71,25 @@ module _ (g : Parameters) (s : Nest) where
     small-maskB = h .small-outer;
   }
 
+pub follows-third : (g : Parameters) (stride blocks needed : ℕ) → stride ≡ g .n * g .p + 0 → blocks ≡ g .m * stride + 0
+    → needed ≡ blocks + blocks + g .xa + g .xb - 1 → blocks < 2 ^ 25
+    → Follows (record { «stride_a» = stride; «mask_a» = blocks; «stride_b» = g .p; «mask_b» = blocks; p = g .p; needed = needed }) g (layout3 g)
+unfolding layout3
+follows-third g stride blocks needed is-stride is-blocks is-needed small =
+    let row : g .n * g .p ≡ stride = omega arith in
+    let all : g .m * (g .n * g .p) ≡ blocks = ap (λ (d : ℕ). g .m * d) row ∙ omega arith in
+    record {
+      p = refl;
+      blockA = λ k l. ap (λ (d : ℕ). k * d + l) row;
+      maskA = λ x. ap (λ (d : ℕ). d + x) all;
+      blockB = λ l j. refl;
+      maskB = λ x. ap (λ (d : ℕ). d + x) all;
+      place = λ k j. omega (arith, ap (λ (d : ℕ). k * d) row, last-term j (g .p));
+      needed = omega (arith, all);
+      small-maskA = small;
+      small-maskB = small;
+    }
+
 module _ {s : Strides} {g : Parameters} {e : Exponents} (f : Follows s g e) where
   pub exponent-is : (series : Series) (i j : ℕ) → j < 2 ^ 8 → exponentBy s series i j ≡ term e series i j
   unfolding exponentBy term
@@ -80,12 +98,3 @@ module _ {s : Strides} {g : Parameters} {e : Exponents} (f : Follows s g e) wher
   exponent-is BlocksB i j h = ap (λ (p : ℕ). j * s .«stride_b» + (p - 1 - i)) (f .p) ∙ sym (f .blockB i j)
   exponent-is MasksB i j h = mod-eq-of-lt (omega (arith, f .small-maskB)) ∙ sym (f .maskB j)
   exponent-is Places i j h = ap (λ (p : ℕ). i * s .«stride_a» + (j * s .«stride_b» + (p - 1))) (f .p) ∙ sym (f .place i j)
-
-module _ (g : Parameters) {a b : ℕ} (first : a ≡ exponents First g .needed) (second : b ≡ exponents Second g .needed) where
-  pub first-chosen : a ≤ b → First ≡ choice g
-  unfolding choice better
-  first-chosen h = rw (← first, ← second, le-leb a b h)
-
-  pub second-chosen : b < a → Second ≡ choice g
-  unfolding choice better
-  second-chosen h = rw (← first, ← second, lt-leb a b h)

@@ -1,10 +1,12 @@
--- Both layouts are sound, for any cuts and group sizes.
+-- The layouts are sound, for any cuts and group sizes.
 --
 --   digits           two numbers in the base d are equal: so are their digits
 --   sound1           layout 1
 --   sound2           layout 2, which is layout 1 with A and B changed over
+--   sound3           layout 3, whose blocks are those of layout 1 with no mask between
 --   sound            every layout
 --   threshold        K is one more than the largest sum
+--   place-below      in a sound layout every place is below K
 use mathlib.Core.Path.{_≡_, refl, sym, ap, _∙_}
 use mathlib.Core.Logic.{⊎-elim}
 use Prim.Native.Nat.{ℕ, suc, _+_, _-_, _*_, _/_, _%_, _<_, _≤_}
@@ -14,8 +16,8 @@ use lib.Arith.{digits-div, digits-mod}
 use Rattle.algebra.proofs.Orders.{le-or-lt}
 use Rattle.layout.specs.declared.Parameters.{Parameters}
 use Rattle.layout.specs.declared.Layout.{Layout}
-use Rattle.layout.specs.declared.Layout.the-variants.{First, Second}
-use Rattle.layout.specs.Exponents.{exponents, layout1, layout2, strideD, strideE}
+use Rattle.layout.specs.declared.Layout.the-variants.{First, Second, Third}
+use Rattle.layout.specs.Exponents.{Exponents, exponents, layout1, layout2, layout3, strideD, strideE}
 use Rattle.layout.specs.Sound.{Cut, Sound, Threshold}
 
 digits : (d a b u v : ℕ) → u < d → v < d → a * d + u ≡ b * d + v → (a ≡ b) × (u ≡ v)
@@ -128,12 +130,58 @@ module _ (g : Parameters) (cut : Cut g) where
         };
       }
 
+-- layout 3 has the blocks and places of layout 1 with no mask between: its stride is np
+bare : Parameters → Parameters
+bare g = record { m = g .m; p = g .p; n = g .n; xa = g .xa; xb = 0 }
+
+cut-bare : (g : Parameters) → Cut g → Cut (bare g)
+unfolding bare
+cut-bare g cut = record { m = cut .m; p = cut .p; n = cut .n }
+
+module _ (g : Parameters) (cut : Cut g) where
+  row : ℕ
+  row = g .n * g .p
+
+  -- no place reaches the masks
+  place-low : (u v : ℕ) → u < g .m → v < g .n → u * row + ((v + 1) * g .p - 1) < g .m * row
+  unfolding row
+  place-low u v hu hv = omega (arith, rows u (g .m) (g .n * g .p) hu, last-row (g .m) (g .n * g .p) (cut .m), in-row g cut v hv)
+
+  pub sound3 : Sound g (layout3 g)
+  unfolding layout3 layout1 strideD bare row
+  sound3 =
+      let s = sound1 (bare g) (cut-bare g cut) in
+      let all = last-row (g .m) row (cut .m) in
+      let one = last-row (g .n) (g .p) (cut .n) in
+      record {
+        firstA = g .m * row;
+        firstB = g .m * row;
+        masksA = λ x. refl;
+        masksB = λ x. refl;
+        meet = λ k l j hk hl hj. omega arith;
+        only = λ k l h j u v hk hl hh hj hu hv e. s .only k l h j u v hk hl hh hj hu hv (omega arith);
+        clearA = λ x l j u v hx hl hj hu hv e. omega (arith, place-low u v hu hv);
+        clearB = λ k l y u v hk hl hy hu hv e. omega (arith, place-low u v hu hv);
+        clearAB = λ x y u v hx hy hu hv e. omega (arith, place-low u v hu hv);
+        bounded = record {
+          below = λ k l h j hk hl hh hj. omega (arith, rows k (g .m) row hk, all, rows j (g .n) (g .p) hj, one);
+          belowA = λ x l j hx hl hj. omega (arith, all, rows j (g .n) (g .p) hj, one);
+          belowB = λ k l y hk hl hy. omega (arith, rows k (g .m) row hk, all, one);
+          belowAB = λ x y hx hy. omega arith;
+        };
+      }
+
 pub sound : (layout : Layout) (g : Parameters) → Cut g → Sound g (exponents layout g)
 unfolding exponents
 sound First = sound1
 sound Second = sound2
+sound Third = sound3
 
 pub threshold : (layout : Layout) (g : Parameters) → Cut g → 1 ≤ g .xa → 1 ≤ g .xb → Threshold g (exponents layout g)
-unfolding exponents layout1 layout2 strideD strideE over
+unfolding exponents layout1 layout2 layout3 strideD strideE over
 threshold First g cut ha hb = record { bounded = sound1 g cut .bounded; reached = reached1 g cut ha hb }
 threshold Second g cut ha hb = record { bounded = sound2 g cut .bounded; reached = omega (arith, reached1 (over g) (cut-over g cut) hb ha) }
+threshold Third g cut ha hb = record { bounded = sound3 g cut .bounded; reached = omega arith }
+
+pub place-below : (g : Parameters) (e : Exponents) → Cut g → Sound g e → (k j : ℕ) → k < g .m → j < g .n → e .place k j < e .needed
+place-below g e cut s k j hk hj = omega (arith, s .meet k 0 j hk (cut .p) hj, s .bounded .below k 0 0 j hk (cut .p) (cut .p) hj)

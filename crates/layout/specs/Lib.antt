@@ -2,4 +2,3 @@
 pub mod Exponents
 pub mod Contracts
 pub mod Sound
-pub mod Layouts

@@ -2,7 +2,7 @@
 // The numbers of cuts and the group sizes are u8, so that every exponent fits a u32 and nothing has to be refused here.
 ghost use mathlib.Core.Path.{_≡_};
 ghost use Prim.Native.Nat.{_+_, _-_, _*_, _^_, _<_};
-ghost use Rattle.layout.specs.Exponents.{exponents, choice};
+ghost use Rattle.layout.specs.Exponents.{exponents, layout3, choice};
 ghost use Rattle.layout.specs.Contracts.{exponentBy, Follows, Nested};
 use std::num::wrapping_add_u32;
 
@@ -15,10 +15,11 @@ pub struct Parameters {
     pub xb: u8,
 }
 
-// The layouts of 01, "Exponents".
+// The layouts of 01, "Exponents", and the third of 02, U2.
 pub enum Layout {
     First,
     Second,
+    Third,
 }
 
 // The exponents that a layout gives: of blocks by row and column, of masks by number, and the places of the table's blocks.
@@ -79,7 +80,23 @@ fn nested(outer: u8, p: u8, inner: u8, outer_masks: u8, inner_masks: u8) -> Nest
     }
 }
 
-// The strides of a layout: in layout 1 A is the outer side, in layout 2 B.
+// Layout 3: both sides' masks come last, after all sums of blocks.
+fn masks_last(g: Parameters) -> Strides
+    ensures { λ r. ⌜ Follows r g (layout3 g) ⌝ }
+{
+    let stride = strided(g.n, g.p as u16, 0);
+    let blocks = strided(g.m, stride as u16, 0);
+    Strides {
+        stride_a: stride as u16,
+        mask_a: blocks,
+        stride_b: g.p as u16,
+        mask_b: blocks,
+        p: g.p,
+        needed: minus(blocks + blocks + g.xa as u32 + g.xb as u32, 1),
+    }
+}
+
+// The strides of a layout: in layout 1 A is the outer side, in layout 2 B, in layout 3 neither.
 pub fn strides_of(layout: Layout, g: Parameters) -> Strides
     ensures { λ r. ⌜ Follows r g (exponents layout g) ⌝ }
 {
@@ -106,6 +123,7 @@ pub fn strides_of(layout: Layout, g: Parameters) -> Strides
                 needed: s.needed,
             }
         }
+        Layout::Third => masks_last(g),
     }
 }
 
@@ -117,14 +135,23 @@ pub fn needed(layout: Layout, g: Parameters) -> u32
     s.needed
 }
 
-// The layout with the smaller K, at a tie layout 1.
+// The layout with the smallest K, at a tie that of the lower number.
 pub fn choose(g: Parameters) -> Layout
     ensures { λ r. ⌜ r ≡ choice g ⌝ }
 {
-    if needed(Layout::First, g) <= needed(Layout::Second, g) {
-        Layout::First
-    } else {
+    let first = needed(Layout::First, g);
+    let second = needed(Layout::Second, g);
+    let third = needed(Layout::Third, g);
+    if first <= second {
+        if first <= third {
+            Layout::First
+        } else {
+            Layout::Third
+        }
+    } else if second <= third {
         Layout::Second
+    } else {
+        Layout::Third
     }
 }
 

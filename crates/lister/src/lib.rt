@@ -49,6 +49,7 @@ fn number_of(layout: Layout) -> u32
     match layout {
         Layout::First => 1,
         Layout::Second => 2,
+        Layout::Third => 3,
     }
 }
 

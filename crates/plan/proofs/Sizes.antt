@@ -1,6 +1,7 @@
 -- The sizes and the places of an accepted job's blocks.
 --
 --   Sizes, sizes    the cuts make up the sides, and a block has 1 to 4096 rows and columns
+--   job-cut         its cuts are from 1 on
 --   job-sound       its layout is sound
 --   place-below     the place of a table block is below K
 use mathlib.Core.Path.{_≡_, ap}
@@ -11,8 +12,8 @@ use native.Mathlib.Omega.{arith}
 use Rattle.algebra.proofs.Orders.{le-or-lt}
 use Rattle.refusal.proofs.Limits.{Within}
 use Rattle.layout.specs.Exponents.{exponents}
-use Rattle.layout.specs.Sound.{Sound}
-use Rattle.layout.proofs.Soundness.{sound}
+use Rattle.layout.specs.Sound.{Cut, Sound}
+use Rattle.layout.proofs.Soundness.{sound, place-below as sound-place}
 use Rattle.plan.specs.declared.Job.{Job}
 use Rattle.plan.specs.Planning.{parameters, blockRows, blockInner, blockColumns, layoutOf, neededOf}
 use Rattle.plan.proofs.Facts.{Fits}
@@ -55,14 +56,14 @@ sizes job f =
       columns = record { low = r .0; high = omega (arith, f .block-c) };
     }
 
+pub job-cut : (job : Job) → Fits job → Cut (parameters job)
+unfolding parameters
+job-cut job f = let r = f .ranged in record { m = r .m .low; p = r .p .low; n = r .n .low }
+
 -- the job's layout is sound
 pub job-sound : (job : Job) → Fits job → Sound (parameters job) (exponents (layoutOf job) (parameters job))
-unfolding parameters
-job-sound job f = let r = f .ranged in sound (layoutOf job) (parameters job) (record { m = r .m .low; p = r .p .low; n = r .n .low })
+job-sound job f = sound (layoutOf job) (parameters job) (job-cut job f)
 
 pub place-below : (job : Job) → Fits job → (k j : ℕ) → k < job .m → j < job .n → exponents (layoutOf job) (parameters job) .place k j < neededOf job
 unfolding parameters neededOf
-place-below job f k j hk hj =
-    let p : 0 < job .p = f .ranged .p .low in
-    let s = job-sound job f in
-    omega (arith, s .meet k 0 j hk p hj, s .bounded .below k 0 0 j hk p p hj)
+place-below job f = sound-place (parameters job) _ (job-cut job f) (job-sound job f)

@@ -24,12 +24,12 @@ use Rattle.refusal.proofs.Chains.{first-clear, unless-done}
 use Rattle.field.specs.Modulus.{modulus}
 use Rattle.field.proofs.Moduli.{known-number}
 use Rattle.layout.specs.Exponents.{exponents}
-use Rattle.layout.specs.Sound.{Cut}
-use Rattle.layout.proofs.Layouts.{layouts}
+use Rattle.layout.proofs.Soundness.{threshold}
+use Rattle.layout.proofs.Choice.{chosen as layout-chosen}
 use Rattle.plan.specs.declared.Job.{Job}
 use Rattle.plan.specs.Planning.{prime, parameters, blockRows, blockColumns, layoutOf, neededOf, planTests}
 use Rattle.plan.proofs.Facts.{Facts, facts}
-use Rattle.plan.proofs.Sizes.{sizes, place-below}
+use Rattle.plan.proofs.Sizes.{sizes, job-cut, place-below}
 use Rattle.share.specs.Sharing.{hostShare, shareOf, shareAfter}
 use Rattle.product.specs.Product.{productEntry, productOf, productAfter}
 use Rattle.message_bytes.specs.Bytes.{bytesOf, elementsOf}
@@ -167,12 +167,12 @@ module _ (job : Job) (points : List ℕ) (heard : ℕ) (store table : List ℕ) 
 needed : (job : Job) (points : List ℕ) → first (planTests job points) ≡ 0 → Needed job
 unfolding layoutOf neededOf parameters
 needed job points e =
-    let g = facts job points e .fits .ranged in
-    let cut : Cut (parameters job) = record { m = g .m .low; p = g .p .low; n = g .n .low } in
+    let f = facts job points e .fits in
+    let best = layout-chosen (parameters job) in
     record {
-      threshold = layouts .threshold (layoutOf job) (parameters job) cut (g .xa .low) (g .xb .low);
-      smallest = layouts .smaller (parameters job);
-      at-a-tie = layouts .at-a-tie (parameters job);
+      threshold = threshold (layoutOf job) (parameters job) (job-cut job f) (f .ranged .xa .low) (f .ranged .xb .low);
+      smallest = best .smallest;
+      at-a-tie = best .lowest;
     }
 
 -- ---- the product on bytes

@@ -9,24 +9,22 @@ use mathlib.Core.List.{List, map}
 use Prim.Native.Nat.{ℕ, suc, _+_, _-_, _*_, _%_, _<_, _≤_}
 use native.Mathlib.Omega.{arith}
 use lib.ListN.{length, getD, drop, length-map}
-use lib.Seq.{getD-take, getD-drop}
-use Rattle.algebra.specs.Lists.{tab, stack, grid, entry}
+use lib.Seq.{ext-getD, getD-take, getD-drop}
+use Rattle.algebra.specs.Lists.{tab, stack, grid, entry, AllBelow}
 use Rattle.algebra.specs.Sets.{size}
-use Rattle.algebra.specs.Modular.{⟨_⟩_≈_}
-use Rattle.algebra.specs.Polynomials.{ev, coefficient}
+use Rattle.algebra.specs.Polynomials.{coefficient}
 use Rattle.algebra.proofs.Orders.{row-end}
-use Rattle.algebra.proofs.Lists.{length-tab, getD-tab, getD-map}
+use Rattle.algebra.proofs.Lists.{getD-map}
 use Rattle.algebra.proofs.Grids.{grid-cong}
 use Rattle.algebra.proofs.Stacks.{stack-cong, stack-tab, grid-tab, stack-grid}
-use Rattle.algebra.proofs.Modular.{≈-trans, ≈-of-eq}
-use Rattle.algebra.proofs.Interpolation.{recover}
+use Rattle.algebra.proofs.Points.{pointsAt, points-each}
 use Rattle.layout.specs.Exponents.{Exponents, exponents}
-use Rattle.layout.specs.Sound.{Sound}
 use Rattle.plan.specs.declared.Job.{Job}
 use Rattle.plan.specs.Planning.{prime, parameters, layoutOf, neededOf, blockRows, blockInner, blockColumns}
 use Rattle.plan.proofs.Facts.{Facts, facts}
-use Rattle.plan.proofs.Sizes.{sizes, job-sound, place-below}
+use Rattle.plan.proofs.Sizes.{sizes}
 use Rattle.share_side.specs.declared.Matrix.the-variants.{A, B}
+use Rattle.share_side.specs.Sides.{side}
 use Rattle.share.specs.Sharing.{point, hostShare}
 use Rattle.product.specs.Product.{productEntry, productOf}
 use Rattle.arrival_heard.specs.Heard.{isHeard}
@@ -34,7 +32,8 @@ use Rattle.arrival.specs.Arriving.{answerLength, blockAt}
 use Rattle.decode.specs.Decoding.{answerEntry, chosen, tableEntry, blocks, tableOf}
 use Rattle.decode.proofs.Chosen.{Chosen, chosen-hosts}
 use Rattle.promise.specs.Demand3.{Task, Accepted}
-use Rattle.promise.proofs.ExactAnswers.{answerOf, coefficients, answer-is, place-is}
+use Rattle.promise.specs.Layouts.{Points, answerOf}
+use Rattle.promise.proofs.Layouts.{job-shown}
 
 -- ---- blocks as one matrix
 
@@ -79,9 +78,6 @@ module _ (x : Task) (f : Facts (x .job) (x .points)) where
   abbrev e : Exponents
   e = exponents (layoutOf job) (parameters job)
 
-  layout : Sound (parameters job) e
-  layout = job-sound job (f .fits)
-
   -- the product with its sizes as the cuts give them
   cuts : List ℕ
   cuts = productOf (prime job) (job .m * blockRows job) (job .p * blockInner job) (job .n * blockColumns job) (x .a) (x .b)
@@ -95,46 +91,61 @@ module _ (x : Task) (f : Facts (x .job) (x .points)) where
 
   module _ (ma mb : List ℕ) (heard : ℕ) (store : List ℕ) (c : Chosen job (x .points) heard)
       (answers : (h : ℕ) → h < job .hosts → isHeard heard h ≡ true → blockAt (answerLength job) store h ≡ answerBlock x h ma mb) where
-    -- the polynomial of the answers' elements at i, v
-    cs : ℕ → ℕ → ℕ → ℕ
-    cs i v = coefficients e job (x .a) ma (x .b) mb i v
+    -- the points of the hosts used
+    used : List ℕ
+    used = pointsAt (x .points) (chosen job heard)
+
+    used-points : Points (prime job) used
+    unfolding used
+    used-points =
+        let inside : AllBelow (length (x .points)) (chosen job heard) = λ k h. omega (arith, f .points-length, c .within k h) in
+        record {
+          below = c .below;
+          nonzero = points-each (x .points) (chosen job heard) inside (λ n. 0 < n) (f .points-pos);
+          distinct = c .distinct;
+        }
+
+    count : length used ≡ e .needed
+    unfolding used neededOf
+    count = length-map (chosen job heard) (λ h. getD (x .points) h 0) ∙ c .count
+
+    -- the element at i, v of the true answer at a point
+    answerAt : ℕ → ℕ → ℕ → ℕ
+    answerAt i v point =
+        getD (answerOf (prime job) (parameters job) (blockRows job) (blockInner job) (blockColumns job) e point (x .a) ma (x .b) mb) (i * blockColumns job + v) 0
 
     answer-value : (h i v : ℕ) → h < job .hosts → isHeard heard h ≡ true → i < blockRows job → v < blockColumns job
-        → ⟨ prime job ⟩ answerEntry job store h i v ≈ ev (tab (cs i v) (e .needed)) (getD (x .points) h 0)
-    unfolding cs answerBlock hostShare point answerOf
+        → answerEntry job store h i v ≡ answerAt i v (getD (x .points) h 0)
+    unfolding answerAt answerBlock hostShare point answerOf side
     answer-value h i v l t hi hv =
         let same : suc h - 1 ≡ h = omega arith in
-        ≈-trans (≈-of-eq (block-entry job store h i v hi hv ∙ ap (λ (ws : List ℕ). getD ws (i * blockColumns job + v) 0) (answers h l t)))
-        (≈-trans (answer-is e job (x .a) ma (x .b) mb i v layout (point (x .points) (suc h)) hi hv)
-        (≈-of-eq (ap (λ (n : ℕ). ev (tab (cs i v) (e .needed)) (getD (x .points) n 0)) same)))
+        block-entry job store h i v hi hv
+        ∙ ap (λ (ws : List ℕ). getD ws (i * blockColumns job + v) 0) (answers h l t)
+        ∙ ap (λ (n : ℕ). answerAt i v (getD (x .points) n 0)) same
 
-    recovered : (i v d : ℕ) → i < blockRows job → v < blockColumns job
-        → coefficient (prime job) (map (λ h. getD (x .points) h 0) (chosen job heard)) (map (λ h. answerEntry job store h i v) (chosen job heard)) d
-        ≡ getD (tab (cs i v) (e .needed)) d 0 % prime job
-    unfolding neededOf
-    recovered i v d hi hv =
+    values : (i v : ℕ) → i < blockRows job → v < blockColumns job
+        → map (λ h. answerEntry job store h i v) (chosen job heard) ≡ map (answerAt i v) used
+    unfolding used
+    values i v hi hv =
         let hosts : List ℕ = chosen job heard in
+        let stored : ℕ → ℕ = λ h. answerEntry job store h i v in
         let long = length-map hosts (λ h. getD (x .points) h 0) in
-        recover (f .fits .known .is-prime) (map (λ h. getD (x .points) h 0) hosts) (map (λ h. answerEntry job store h i v) hosts) (c .below) (c .distinct)
-        (tab (cs i v) (e .needed))
-        (omega (arith, length-tab (cs i v) (e .needed), long, c .count))
+        ext-getD 0 (map stored hosts) (map (answerAt i v) used) (length-map hosts stored ∙ sym (length-map used (answerAt i v) ∙ long))
         (λ n l.
-        let h : n < length hosts = omega (arith, long) in
-        ≈-trans (≈-of-eq (getD-map (λ h. answerEntry job store h i v) hosts n h))
-        (≈-trans (answer-value (getD hosts n 0) i v (c .within n h) (c .are-heard n h) hi hv)
-        (≈-of-eq (ap (ev (tab (cs i v) (e .needed))) (sym (getD-map (λ h. getD (x .points) h 0) hosts n h))))))
-        d
+        let h : n < length hosts = omega (arith, length-map hosts stored) in
+        getD-map stored hosts n h
+        ∙ answer-value (getD hosts n 0) i v (c .within n h) (c .are-heard n h) hi hv
+        ∙ sym (getD-map (answerAt i v) used n (omega (arith, long)) ∙ ap (answerAt i v) (getD-map (λ h. getD (x .points) h 0) hosts n h)))
 
     table : tableOf job (x .points) heard store ≡ cuts
-    unfolding tableOf tableEntry cuts productOf cs parameters neededOf
+    unfolding tableOf tableEntry cuts productOf parameters used answerAt
     table =
         blocks-grid (tableEntry job (x .points) heard store)
         (λ u w. productEntry (job .p * blockInner job) (job .n * blockColumns job) (x .a) (x .b) u w % prime job)
         (job .m) (blockRows job) (job .n) (blockColumns job)
         (λ k j i v hk hj hi hv.
-        recovered i v (e .place k j) hi hv
-        ∙ ap (λ (n : ℕ). n % prime job) (getD-tab (cs i v) (e .needed) (e .place k j) 0 (place-below job (f .fits) k j hk hj))
-        ∙ place-is e job (x .a) ma (x .b) mb i v layout k j hk hj .same)
+        ap (λ (ys : List ℕ). coefficient (prime job) used ys (e .place k j)) (values i v hi hv)
+        ∙ job-shown job (f .fits) .decodes used used-points count (x .a) ma (x .b) mb k j i v hk hj hi hv)
 
 pub exact : (x : Task) → Accepted x → (ma mb : List ℕ) (heard : ℕ) (store : List ℕ)
     → neededOf (x .job) ≤ size (isHeard heard) (x .job .hosts)

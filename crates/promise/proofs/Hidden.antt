@@ -1,13 +1,12 @@
 -- The privacy half of demand 3: a group of at most X_A hosts gets byte-equal A messages, one of at most X_B byte-equal B messages.
 --
 --   same-numbers      two jobs with the same public numbers have the same numbers
---   masks-follow      the exponents of a matrix's masks follow one another
 --   largest-count     there are as many masks as hosts in the largest group
 --   hidden            the masks of the two jobs match one to one
 use mathlib.Core.Path.{_≡_, refl, sym, ap, ap₂, _∙_, subst}
 use mathlib.Core.Bool.{Bool, true}
 use mathlib.Core.List.{List, []}
-use Prim.Native.Nat.{ℕ, suc, _+_, _-_, _^_, _<_, _≤_}
+use Prim.Native.Nat.{ℕ, suc, _-_, _<_, _≤_}
 use native.Mathlib.Omega.{arith}
 use lib.ListN.{length, getD, length-map}
 use Rattle.algebra.specs.Lists.{AllBelow}
@@ -15,19 +14,18 @@ use Rattle.algebra.specs.Sets.{members, size}
 use Rattle.algebra.proofs.Lists.{getD-map}
 use Rattle.algebra.proofs.Sets.{members-has, members-below, members-distinct}
 use Rattle.algebra.proofs.Points.{pointsAt, points-each, points-apart}
-use Rattle.layout.specs.Exponents.{Exponents, exponents, term}
+use Rattle.layout.specs.Exponents.{Exponents, exponents}
 use Rattle.plan.specs.declared.Job.{Job}
 use Rattle.plan.specs.Planning.{prime, parameters, layoutOf}
-use Rattle.plan.proofs.Facts.{Fits, Facts, facts}
-use Rattle.plan.proofs.Sizes.{job-sound}
+use Rattle.plan.proofs.Facts.{Facts, facts}
 use Rattle.share_side.specs.declared.Matrix.{Matrix}
 use Rattle.share_side.specs.declared.Matrix.the-variants.{A, B}
 use Rattle.share_side.specs.Sides.{side}
 use Rattle.share.specs.Sharing.{shareOf, point, hostShare}
 use Rattle.message.specs.Format.{messageOf}
 use Rattle.promise.specs.Demand3.{Task, SamePublic, Masks, Privacy, publicNumbers, largest, matrix, headerFor, shareHeader, shareFor, shareMessage}
-use Rattle.promise.proofs.Solvable.{Solvable, solvable-powers}
-use Rattle.promise.proofs.Matching.{MasksFor, Matched, matched}
+use Rattle.promise.specs.Layouts.{Points, MasksFor, Matched}
+use Rattle.promise.proofs.Layouts.{job-shown}
 
 same-numbers : (x y : Task) → SamePublic x y → x .job ≡ y .job
 unfolding publicNumbers
@@ -52,14 +50,8 @@ same-numbers x y same =
 layoutData : Job → Exponents
 layoutData job = exponents (layoutOf job) (parameters job)
 
-masks-follow : (m : Matrix) (job : Job) → Fits job
-    → (base : ℕ) × ((y : ℕ) → term (layoutData job) (side m job .masks) 0 y ≡ base + y)
-unfolding side term layoutData
-masks-follow A job fits = let s = job-sound job fits in (s .firstA, s .masksA)
-masks-follow B job fits = let s = job-sound job fits in (s .firstB, s .masksB)
-
 largest-count : (m : Matrix) (x : Task) → largest m x ≡ side m (x .job) .«mask_count»
-unfolding largest side
+unfolding largest side parameters
 largest-count A x = refl
 largest-count B x = refl
 
@@ -82,32 +74,24 @@ module _ (points : List ℕ) (g : ℕ → Bool) (n : ℕ) where
       let own : getD (members g n) (at .0) 0 ≡ suc i - 1 = omega (arith, at .2) in
       (at .0, omega (arith, at .1, length-group), getD-map (λ h. getD points h 0) (members g n) (at .0) (at .1) ∙ ap (λ (k : ℕ). getD points k 0) own)
 
--- what mask y of a matrix is multiplied by at point k of a group
-maskWeight : Matrix → Job → List ℕ → ℕ → ℕ → ℕ
-maskWeight m job group k y = getD group k 0 ^ term (layoutData job) (side m job .masks) 0 y
-
 module _ (m : Matrix) (job : Job) (points : List ℕ) (known : Facts job points) (g : ℕ → Bool)
     (small : size g (job .hosts) ≤ side m job .«mask_count») where
-  group-solvable : Solvable (prime job) (length (groupPoints points g (job .hosts))) (side m job .«mask_count»)
-      (maskWeight m job (groupPoints points g (job .hosts)))
-  unfolding groupPoints maskWeight
-  group-solvable =
+  group-points : Points (prime job) (groupPoints points g (job .hosts))
+  unfolding groupPoints
+  group-points =
       let indices = members g (job .hosts) in
       let below : AllBelow (length points) indices = λ k h. omega (arith, known .points-length, members-below g (job .hosts) k h) in
-      let follow = masks-follow m job (known .fits) in
-      solvable-powers (known .fits .known .is-prime) (pointsAt points indices)
-      (points-each points indices below (λ x. x < prime job) (known .points-below))
-      (points-each points indices below (λ x. 0 < x) (known .points-pos))
-      (points-apart points indices below (known .points-distinct) (members-distinct g (job .hosts)))
-      (side m job .«mask_count») (omega (arith, length-group points g (job .hosts)))
-      (term (layoutData job) (side m job .masks) 0) (follow .0) (follow .1)
+      record {
+        below = points-each points indices below (λ x. x < prime job) (known .points-below);
+        nonzero = points-each points indices below (λ x. 0 < x) (known .points-pos);
+        distinct = points-apart points indices below (known .points-distinct) (members-distinct g (job .hosts));
+      }
 
   module _ (xs ys : List ℕ) where
     match : Matched (prime job) (layoutData job) (side m job) (groupPoints points g (job .hosts)) xs ys
-    unfolding maskWeight
+    unfolding side layoutData
     match =
-        matched (layoutData job) (side m job) (groupPoints points g (job .hosts)) group-solvable
-        (omega (arith, known .fits .known .is-prime .above-one)) xs ys
+        job-shown job (known .fits) .hides m (groupPoints points g (job .hosts)) group-points (omega (arith, length-group points g (job .hosts))) xs ys
 
     same-host : (ms : List ℕ) (i : ℕ) → i < job .hosts → g i ≡ true
         → hostShare m job points (suc i) xs ms ≡ hostShare m job points (suc i) ys (match .partner ms)

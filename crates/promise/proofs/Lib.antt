@@ -3,10 +3,11 @@ pub mod Starred
 pub mod Demand1
 pub mod Solvable
 pub mod Matching
-pub mod Hidden
 pub mod ExactSums
 pub mod ExactPlaces
 pub mod ExactAnswers
+pub mod Layouts
+pub mod Hidden
 pub mod Exact
 pub mod Demand2
 pub mod Fits

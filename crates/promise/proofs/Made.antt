@@ -27,7 +27,7 @@ use Rattle.field.specs.Modulus.{noModulus}
 use Rattle.refusal.specs.Limits.{anyOutside, sizesOutside, overBlock}
 use Rattle.refusal.proofs.Chains.{first-none, first-miss, outcome-done, unless-done, inside}
 use Rattle.refusal.proofs.Limits.{Within}
-use Rattle.plan.specs.Planning.{prime, blockRows, blockInner, blockColumns}
+use Rattle.plan.specs.Planning.{parameters, prime, blockRows, blockInner, blockColumns}
 use Rattle.plan.proofs.Facts.{Fits, facts}
 use Rattle.plan.proofs.Sizes.{Sizes, sizes}
 use Rattle.plan.proofs.Outcomes.{plan-told}
@@ -86,7 +86,7 @@ module _ (x : Task) (ok : Accepted x) (i : ℕ) (low : i < x .job .hosts) where
 
   -- the sides' matrices are of exact length, with elements below q
   exact : (m : Matrix) → length (matrix m x) ≡ matrixLength (side m (x .job))
-  unfolding matrix matrixLength blockLength side
+  unfolding matrix matrixLength blockLength side parameters
   exact A =
       let z = size in
       ok .length-a ∙ ap₂ _*_ (z .t) (z .s) ∙ (let e : x .job .m * blockRows (x .job) * (x .job .p * blockInner (x .job)) ≡ x .job .m * x .job .p * (blockRows (x .job) * blockInner (x .job)) = omega arith in e)

@@ -6,8 +6,7 @@
 --   shift                what is added to the masks, so that their sums make up for other matrices
 --   shift-below          it is below q
 --   same-sums            then each host of the group gets the same sums
---   MasksFor, Matched    masks of a side, and a matching of them under which a group gets the same shares of two matrices
---   matched              there is one where the masks' weights are solvable
+--   matched              the masks of a side match where their weights are solvable
 use mathlib.Core.Path.{_≡_, sym, ap, ap₂, _∙_}
 use mathlib.Core.List.{List}
 use Prim.Native.Nat.{ℕ, _+_, _-_, _*_, _/_, _%_, _^_, _<_}
@@ -27,6 +26,7 @@ use Rattle.layout.specs.Exponents.{Exponents, term}
 use Rattle.share_side.specs.declared.Side.{Side}
 use Rattle.share_side.specs.Sides.{blockLength, maskLength}
 use Rattle.share.specs.Sharing.{blockEntry, maskEntry, shareEntry, shareOf}
+use Rattle.promise.specs.Layouts.{Matched}
 use Rattle.promise.proofs.Solvable.{Solvable}
 
 pub moved : ℕ → ℕ → (ℕ → ℕ) → List ℕ → List ℕ
@@ -117,20 +117,6 @@ module _ {q n count : ℕ} {w : ℕ → ℕ → ℕ} (solvable : Solvable q n co
         ≈-sym (≈-by whole (omega (arith, ap (λ (z : ℕ). z * v k i j) q-is)))
 
 -- ---- one side, two matrices
-
--- masks of a side: of exact length, with elements below q
-abbrev pub MasksFor : ℕ → Side → List ℕ → Type 0
-MasksFor q s ms = (length ms ≡ maskLength s) × AllBelow q ms
-
-pub record Matched (q : ℕ) (e : Exponents) (s : Side) (group xs ys : List ℕ) : Type 0 where
-  pub partner : List ℕ → List ℕ
-  pub back : List ℕ → List ℕ
-  pub partner-masks : (ms : List ℕ) → MasksFor q s (partner ms)
-  pub back-masks : (ms : List ℕ) → MasksFor q s (back ms)
-  pub back-partner : (ms : List ℕ) → MasksFor q s ms → back (partner ms) ≡ ms
-  pub partner-back : (ms : List ℕ) → MasksFor q s ms → partner (back ms) ≡ ms
-  pub same : (ms : List ℕ) (k : ℕ) → k < length group
-      → shareOf q e s (getD group k 0) xs ms ≡ shareOf q e s (getD group k 0) ys (partner ms)
 
 module _ {q : ℕ} (e : Exponents) (s : Side) (group : List ℕ)
     (solvable : Solvable q (length group) (s .«mask_count») (λ k y. getD group k 0 ^ term e (s .masks) 0 y)) (pos : 0 < q) (xs ys : List ℕ) where

@@ -4,5 +4,6 @@ pub mod Demand1
 pub mod OtherCalls
 pub mod Demand2
 pub mod Demand3
+pub mod Layouts
 pub mod Retried
 pub mod WholeNumbers

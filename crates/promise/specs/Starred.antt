@@ -1,10 +1,10 @@
--- The starred lines of 01, "Checked by hand": one table of the definitions' values, each beside the sheet's.
+-- The starred lines of 01, "Checked by hand", and those of 02, U2: one table of the definitions' values, each beside the sheet's.
 --
 --   Line           == what the definitions give, and what the sheet says
 --   jobWith ..     == a job over q 257 of the smallest sizes that the cuts divide
 --   plan job       == what planning tells on paper, with the points 1..N: its number, and of an accepted job layout, K, and the
 --                     sizes of blocks, which are all 1 here
---   thresholds     == K by layout 1 and by layout 2
+--   thresholds     == K by each layout
 --   share m x y i  == what sharing leaves at host i of that job, for a matrix of the one element x and a mask of the one
 --                     element y; 99 stands in the output before, and would stay there if the call were refused
 --   answer i       == what the product leaves for host i, with A 5, its mask 7, B 4 and its mask 9
@@ -19,7 +19,8 @@ use Prim.Native.Nat.{ℕ, suc, _<_}
 use lib.IntN.{ℤ, pos, negsuc}
 use lib.ListN.{length, getD}
 use Rattle.algebra.specs.Lists.{tab}
-use Rattle.layout.specs.declared.Layout.the-variants.{First, Second}
+use Rattle.layout.specs.declared.Layout.{Layout}
+use Rattle.layout.specs.declared.Layout.the-variants.{First, Second, Third}
 use Rattle.layout.specs.Exponents.{exponents}
 use Rattle.plan.specs.declared.Job.{Job}
 use Rattle.plan.specs.Planning.{parameters, planned, told}
@@ -38,7 +39,7 @@ unfoldable pub plan : Job → List ℕ
 plan job = let t = told (planned job (tab suc (job .hosts))) in t .number ∷ t .values
 
 unfoldable pub thresholds : Job → List ℕ
-thresholds job = exponents First (parameters job) .needed ∷ exponents Second (parameters job) .needed ∷ []
+thresholds job = let k : Layout → ℕ = λ l. exponents l (parameters job) .needed in k First ∷ k Second ∷ k Third ∷ []
 
 -- q 13, all sizes and both X 1
 unfoldable pub smallest : Job
@@ -87,14 +88,18 @@ starred =
     -- 2, 2, 3, 5 gives 32
     ∷ (plan (jobWith 2 2 3 5 5 32), 0 ∷ 1 ∷ 32 ∷ 1 ∷ 1 ∷ 1 ∷ [])
     -- 3, 4, 4, 2 gives 69, so refused with 8
-    ∷ (thresholds (jobWith 3 4 4 2 2 64), 69 ∷ 69 ∷ [])
+    ∷ (thresholds (jobWith 3 4 4 2 2 64), 69 ∷ 69 ∷ 99 ∷ [])
     ∷ (plan (jobWith 3 4 4 2 2 64), 8 ∷ [])
-    -- 2, 3, 2, 7 gives 43 and 38: layout 2
-    ∷ (thresholds (jobWith 2 3 2 7 7 64), 43 ∷ 38 ∷ [])
-    ∷ (plan (jobWith 2 3 2 7 7 64), 0 ∷ 2 ∷ 38 ∷ 1 ∷ 1 ∷ 1 ∷ [])
+    -- 2, 3, 2, 7 gives 43 and 38, and 37 with layout 3 (02, U2)
+    ∷ (thresholds (jobWith 2 3 2 7 7 64), 43 ∷ 38 ∷ 37 ∷ [])
+    ∷ (plan (jobWith 2 3 2 7 7 64), 0 ∷ 3 ∷ 37 ∷ 1 ∷ 1 ∷ 1 ∷ [])
     -- p 1, m 2, n 2, X_A 3, X_B 1 gives 10 and 12: layout 1
-    ∷ (thresholds (jobWith 1 2 2 3 1 12), 10 ∷ 12 ∷ [])
+    ∷ (thresholds (jobWith 1 2 2 3 1 12), 10 ∷ 12 ∷ 11 ∷ [])
     ∷ (plan (jobWith 1 2 2 3 1 12), 0 ∷ 1 ∷ 10 ∷ 1 ∷ 1 ∷ 1 ∷ [])
+    -- 02, U2: 2, 2, 2 and both X 5 waited for 26 gardens, and need 25 (document 004, table IV)
+    ∷ (thresholds (jobWith 2 2 2 5 5 25), 26 ∷ 26 ∷ 25 ∷ [])
+    ∷ (plan (jobWith 2 2 2 5 5 25), 0 ∷ 3 ∷ 25 ∷ 1 ∷ 1 ∷ 1 ∷ [])
+    ∷ (plan (jobWith 2 2 2 5 5 24), 8 ∷ [])
     ∷ []
 
 abbrev pub Right : List Line → Type 0

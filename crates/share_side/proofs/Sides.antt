@@ -2,18 +2,24 @@
 --
 --   plan-side        the side by an accepted job's plan is the job's
 --   side-small       a side of an accepted job keeps the limits
+--   block-listed, mask-listed   where the list of a side's exponents has those of a block and of a mask
 --   Passed, passed   what the tests 13 to 15 tell, once they have passed
-use mathlib.Core.Path.{_≡_, refl}
+use mathlib.Core.Path.{_≡_, refl, sym, ap, _∙_}
 use mathlib.Core.Bool.{not, _||_}
-use mathlib.Core.List.{List}
-use Prim.Native.Nat.{ℕ}
-use lib.ListN.{length}
+use mathlib.Core.List.{List, _++_}
+use Prim.Native.Nat.{ℕ, _+_, _*_, _<_}
+use native.Mathlib.Omega.{arith}
+use lib.Arith.{digits-lt}
+use lib.ListN.{length, getD, List·getD-append}
+use lib.Seq.{getD-append-add}
 use borrow.Author.Tests.{not-false}
-use Rattle.algebra.specs.Lists.{AllBelow, allBelow}
-use Rattle.algebra.proofs.Lists.{all-below-test}
+use Rattle.algebra.specs.Lists.{tab, grid, AllBelow, allBelow}
+use Rattle.algebra.proofs.Lists.{getD-tab, all-below-test}
+use Rattle.algebra.proofs.Grids.{length-grid, getD-grid}
 use Rattle.algebra.proofs.Tests.{or-all, equal}
 use Rattle.refusal.specs.Chain.{first, differs}
 use Rattle.refusal.proofs.Chains.{first-clear}
+use Rattle.layout.specs.Exponents.{Exponents, term}
 use Rattle.plan.specs.declared.Job.{Job}
 use Rattle.plan.specs.Planning.{parameters, planOf}
 use Rattle.plan.proofs.Facts.{Fits}
@@ -21,7 +27,7 @@ use Rattle.plan.proofs.Sizes.{sizes}
 use Rattle.share_side.specs.declared.Matrix.{Matrix}
 use Rattle.share_side.specs.declared.Matrix.the-variants.{A, B}
 use Rattle.share_side.specs.declared.Side.{Side}
-use Rattle.share_side.specs.Sides.{side, blockLength, matrixLength, maskLength, matrixTests}
+use Rattle.share_side.specs.Sides.{side, sideExponents, blockLength, matrixLength, maskLength, matrixTests}
 use Rattle.share_side.specs.Contracts.{planSide, Small}
 
 pub plan-side : (m : Matrix) (job : Job) → planSide m (planOf job) ≡ side m job
@@ -30,7 +36,7 @@ plan-side A job = refl
 plan-side B job = refl
 
 pub side-small : (m : Matrix) (job : Job) → Fits job → Small (side m job)
-unfolding side
+unfolding side parameters
 side-small A job f =
     let r = f .ranged in
     let size = sizes job f in
@@ -55,6 +61,37 @@ side-small B job f =
       masked = r .xb .low;
       mask-count = r .xb .high;
     }
+
+-- ---- the list of a side's exponents
+
+module _ (e : Exponents) (s : Side) where
+  -- those of the blocks
+  blocks : List ℕ
+  blocks = grid (term e (s .blocks)) (s .«grid_rows») (s .«grid_columns»)
+
+  -- those of the masks
+  masks : List ℕ
+  masks = tab (term e (s .masks) 0) (s .«mask_count»)
+
+  long : length blocks ≡ s .«grid_rows» * s .«grid_columns»
+  unfolding blocks
+  long = length-grid (term e (s .blocks)) (s .«grid_rows») (s .«grid_columns»)
+
+  pub block-listed : (k l : ℕ) → k < s .«grid_rows» → l < s .«grid_columns»
+      → getD (sideExponents e s) (k * s .«grid_columns» + l) 0 ≡ term e (s .blocks) k l
+  unfolding sideExponents blocks masks
+  block-listed k l hk hl =
+      List·getD-append blocks masks 0 (k * s .«grid_columns» + l) (omega (arith, long, digits-lt hk hl))
+      ∙ getD-grid (term e (s .blocks)) (s .«grid_rows») (s .«grid_columns») k l 0 hk hl
+
+  pub mask-listed : (y : ℕ) → y < s .«mask_count» → getD (sideExponents e s) (s .«grid_rows» * s .«grid_columns» + y) 0 ≡ term e (s .masks) 0 y
+  unfolding sideExponents blocks masks
+  mask-listed y h =
+      ap (λ (n : ℕ). getD (blocks ++ masks) (n + y) 0) (sym long)
+      ∙ getD-append-add blocks masks y 0
+      ∙ getD-tab (term e (s .masks) 0) (s .«mask_count») y 0 h
+
+-- ---- the tests of a side's matrix and masks
 
 pub record Passed (q : ℕ) (s : Side) (xs ms : List ℕ) (room : ℕ) : Type 0 where
   pub matrix : length xs ≡ matrixLength s

@@ -13,33 +13,15 @@ use lib.ListN.{length, drop}
 use Rattle.algebra.specs.Lists.{tab, grid}
 use Rattle.refusal.specs.Limits.{mostElements}
 use Rattle.layout.specs.declared.Series.{Series}
-use Rattle.layout.specs.declared.Series.the-variants.{BlocksA, MasksA, BlocksB, MasksB}
 use Rattle.layout.specs.declared.Strides.{Strides}
 use Rattle.layout.specs.Contracts.{exponentBy}
 use Rattle.plan.specs.declared.Plan.{Plan}
 use Rattle.share_side.specs.declared.Matrix.{Matrix}
-use Rattle.share_side.specs.declared.Matrix.the-variants.{A, B}
 use Rattle.share_side.specs.declared.Side.{Side}
+use Rattle.share_side.specs.Sides.{cutSide}
 
 unfoldable pub planSide : Matrix → Plan → Side
-planSide A plan = record {
-  «grid_rows» = plan .parameters .m;
-  «grid_columns» = plan .parameters .p;
-  «block_rows» = plan .rows;
-  «block_columns» = plan .inner;
-  «mask_count» = plan .parameters .xa;
-  blocks = BlocksA;
-  masks = MasksA;
-}
-planSide B plan = record {
-  «grid_rows» = plan .parameters .p;
-  «grid_columns» = plan .parameters .n;
-  «block_rows» = plan .inner;
-  «block_columns» = plan .columns;
-  «mask_count» = plan .parameters .xb;
-  blocks = BlocksB;
-  masks = MasksB;
-}
+planSide m plan = cutSide m (plan .parameters) (plan .rows) (plan .inner) (plan .columns)
 
 pub record Small (s : Side) : Type 0 where
   pub grid-rows : s .«grid_rows» ≤ 8
