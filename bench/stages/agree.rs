@@ -11,12 +11,11 @@ use plain::share::Matrix;
 const JOBS: u32 = 300;
 const FAULTS: u32 = 20;
 
-/// Runs random jobs by both, and calls with faults; stops where two outcomes differ.
+/// Runs random jobs by both, the layouts in turn, and calls with faults; stops where two outcomes differ.
 pub fn check() {
     let mut random = Random::new(1);
-    for _ in 0..JOBS {
-        let modulus = random.within(1, 3);
-        let work = draw(&mut random, modulus);
+    for i in 0..JOBS {
+        let work = draw(&mut random, i % 3 + 1);
         let room = whole(&work);
         for _ in 0..FAULTS {
             let (mut work, mut room) = (work.clone(), room.clone());
@@ -26,17 +25,19 @@ pub fn check() {
     }
 }
 
-/// A random job.
-fn draw(random: &mut Random, modulus: u32) -> Work {
+/// A random job in a layout. Layout 3 needs at least 13 answers, more than there are hosts with 13.
+fn draw(random: &mut Random, layout: u32) -> Work {
     loop {
+        let modulus = random.within(1, 3);
         let shape = Shape {
             cuts: [0; 3].map(|_| random.within(1, 3)),
-            group: random.within(1, 3),
+            groups: [0; 2].map(|_| random.within(1, 8)),
             hosts: random.within(3, prime(modulus).min(65) - 1),
         };
         let block = [0; 3].map(|_| random.within(1, 9));
-        if let Some(work) = Work::new(random, modulus, shape, block) {
-            return work;
+        match Work::new(random, modulus, shape, block) {
+            Some(work) if work.layout == layout => return work,
+            _ => {}
         }
     }
 }

@@ -1,7 +1,8 @@
 //! What is timed: every stage at each modulus, and how the stages grow.
 
+use crate::random::Random;
 use crate::stage::Stage;
-use crate::work::Shape;
+use crate::work::{Shape, Work};
 
 /// A job of a modulus number and a shape, whose blocks have these rows, inner sizes and columns.
 #[derive(Clone, Copy)]
@@ -24,27 +25,40 @@ pub struct Table {
     pub rows: Vec<Row>,
 }
 
-/// A shape.
+/// All stages, as they come in a job, and a whole job.
+const STAGES: [Stage; 9] = [
+    Stage::Plan,
+    Stage::Share,
+    Stage::Product,
+    Stage::Write,
+    Stage::Read,
+    Stage::Arrival,
+    Stage::Repeated,
+    Stage::Decoding,
+    Stage::Whole,
+];
+
+/// A shape with groups of one size.
 fn shape(cuts: [u32; 3], group: u32, hosts: u32) -> Shape {
-    Shape { cuts, group, hosts }
+    let groups = [group; 2];
+    Shape {
+        cuts,
+        groups,
+        hosts,
+    }
+}
+
+/// How many answers a job of a shape needs.
+fn needed(shape: Shape) -> usize {
+    let work = Work::new(&mut Random::new(1), 2, shape, [1; 3]);
+    work.expect("the job is planned").answering.len()
 }
 
 /// Every stage of a 64 by 64 job: 20 hosts and 17 needed. With 13 there are at most 12 hosts, so there
 /// the matrices are cut so that 11 are needed.
 pub fn every_stage() -> Vec<Row> {
-    let stages = [
-        Stage::Plan,
-        Stage::Share,
-        Stage::Product,
-        Stage::Write,
-        Stage::Read,
-        Stage::Arrival,
-        Stage::Repeated,
-        Stage::Decoding,
-        Stage::Whole,
-    ];
     let mut rows = Vec::new();
-    for stage in stages {
+    for stage in STAGES {
         for modulus in 1..=3 {
             let (shape, inner) = match modulus {
                 1 => (shape([2, 1, 2], 2, 12), 64),
@@ -66,6 +80,13 @@ pub fn every_stage() -> Vec<Row> {
         }
     }
     rows
+}
+
+/// Every stage of a 64 by 64 job in layout 3: groups of 5, 28 hosts and 25 needed.
+pub fn every_stage_in_layout_3() -> Vec<Row> {
+    let shape = shape([2, 2, 2], 5, 28);
+    assert_eq!(needed(shape), 25);
+    rows(&STAGES, &[(shape, 32)])
 }
 
 /// The tables of how the stages grow.
@@ -121,16 +142,13 @@ fn by_cuts() -> Table {
     }
 }
 
-/// Decoding over K: the groups grow from 1 to 8.
+/// Decoding over K: the groups grow from 1 to 8. Groups from 5 on have layout 3.
 fn by_needed() -> Table {
-    let groups = [1, 2, 3, 4, 5, 6, 7, 8];
+    let shapes = [1, 2, 3, 4, 5, 6, 7, 8].map(|group| shape([2, 2, 2], group, 40));
     Table {
-        title: "By K: blocks of 16 by 16, m, p, n 2, 40 hosts",
-        columns: groups.map(|group| format!("{}", 3 * group + 11)).to_vec(),
-        rows: rows(
-            &[Stage::Decoding],
-            &groups.map(|group| (shape([2, 2, 2], group, 40), 16)),
-        ),
+        title: "By K: blocks of 16 by 16, m, p, n 2, groups of 1 to 8, 40 hosts",
+        columns: shapes.map(|shape| needed(shape).to_string()).to_vec(),
+        rows: rows(&[Stage::Decoding], &shapes.map(|shape| (shape, 16))),
     }
 }
 

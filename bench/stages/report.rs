@@ -1,7 +1,7 @@
 //! The tables. Every case is timed in several processes, so that the addresses of buffers, which change
 //! from process to process, decide nothing.
 
-use crate::cases::{every_stage, growth, Case, Row, Table};
+use crate::cases::{every_stage, every_stage_in_layout_3, growth, Case, Row, Table};
 use crate::race::Times;
 use crate::random::Random;
 use crate::stage::{measure, Stage};
@@ -17,7 +17,8 @@ type Runs = Vec<Times>;
 /// All cases with their stages, in the order of the tables.
 fn all_cases() -> Vec<(Stage, Case)> {
     let grown = growth().into_iter().flat_map(|table| table.rows);
-    let rows = every_stage().into_iter().chain(grown);
+    let stages = [every_stage(), every_stage_in_layout_3()];
+    let rows = stages.into_iter().flatten().chain(grown);
     rows.flat_map(|row| row.cases.into_iter().map(move |case| (row.stage, case)))
         .collect()
 }
@@ -67,14 +68,25 @@ fn spread(numbers: impl Iterator<Item = f64>) -> [f64; 3] {
 pub fn print_tables() {
     let processes: Vec<Vec<Times>> = (0..PROCESSES).map(|_| times_of_a_process()).collect();
     let mut cases = (0..processes[0].len()).map(|i| processes.iter().map(|run| run[i]).collect());
-    println!("\nEvery stage of a 64 × 64 job\n");
-    println!("| stage | q | library | plain Rust | ratio | lowest, highest | of fastest |");
-    println!("|---|---|---|---|---|---|---|");
-    for row in every_stage() {
-        print_line(&row, &cases.next().expect("a case has its times"));
-    }
+    let layout_3 = every_stage_in_layout_3();
+    print_stages("Every stage of a 64 × 64 job", &every_stage(), &mut cases);
+    print_stages(
+        "Every stage, layout 3: groups of 5, 25 of 28 hosts",
+        &layout_3,
+        &mut cases,
+    );
     for table in growth() {
         print_growth(&table, &mut cases);
+    }
+}
+
+/// Prints a table of stages, a line a stage.
+fn print_stages(title: &str, rows: &[Row], cases: &mut impl Iterator<Item = Runs>) {
+    println!("\n{title}\n");
+    println!("| stage | q | library | plain Rust | ratio | lowest, highest | of fastest |");
+    println!("|---|---|---|---|---|---|---|");
+    for row in rows {
+        print_line(row, &cases.next().expect("a case has its times"));
     }
 }
 

@@ -1,28 +1,29 @@
 //! A job with its matrices and masks, and how it goes from the plan to the table.
 
-use crate::calls::{Calls, Plain};
+use crate::calls::Calls;
 use crate::random::Random;
 use plain::message::Header;
-use plain::plan::Job;
+use plain::plan::{plan, Job};
 use plain::share::Matrix;
 
 /// The most elements of a block: what reading a message wants room for.
 const MOST: usize = 4096;
 
-/// The cuts m, p, n of a job, the size of its groups, and how many hosts it has.
+/// The cuts m, p, n of a job, the sizes of its groups, X_A and X_B, and how many hosts it has.
 #[derive(Clone, Copy)]
 pub struct Shape {
     pub cuts: [u32; 3],
-    pub group: u32,
+    pub groups: [u32; 2],
     pub hosts: u32,
 }
 
-/// A job: its numbers and points, its matrices and masks, the hosts that answer, as many as are needed,
-/// and the sizes of blocks: rows, inner, columns.
+/// A job: its numbers, points and layout, its matrices and masks, the hosts that answer, as many as are
+/// needed, and the sizes of blocks: rows, inner, columns.
 #[derive(Clone)]
 pub struct Work {
     pub job: Job,
     pub points: Vec<u32>,
+    pub layout: u32,
     pub a: Vec<u32>,
     pub b: Vec<u32>,
     pub a_masks: Vec<u32>,
@@ -58,7 +59,7 @@ impl Work {
     /// planning refuses it.
     pub fn new(random: &mut Random, modulus: u32, shape: Shape, block: [u32; 3]) -> Option<Work> {
         let q = prime(modulus);
-        let [m, p, n] = shape.cuts;
+        let ([m, p, n], [xa, xb]) = (shape.cuts, shape.groups);
         let [rows, inner, columns] = block;
         let job = Job {
             modulus,
@@ -68,24 +69,25 @@ impl Work {
             m,
             p,
             n,
-            xa: shape.group,
-            xb: shape.group,
+            xa,
+            xb,
             hosts: shape.hosts,
             number: random.word(),
         };
         let points = points(random, q, shape.hosts);
-        let needed = Plain.plan(&job, &points).ok()?;
+        let layout = plan(&job, &points).ok()?.layout;
         let mut hosts: Vec<u32> = (1..=shape.hosts).collect();
-        while hosts.len() > needed as usize {
+        while hosts.len() > layout.needed as usize {
             hosts.remove(random.index(hosts.len()));
         }
         Some(Work {
             job,
             points,
+            layout: layout.number,
             a: elements(random, q, (job.t * job.s) as usize),
             b: elements(random, q, (job.s * job.r) as usize),
-            a_masks: elements(random, q, (shape.group * rows * inner) as usize),
-            b_masks: elements(random, q, (shape.group * inner * columns) as usize),
+            a_masks: elements(random, q, (xa * rows * inner) as usize),
+            b_masks: elements(random, q, (xb * inner * columns) as usize),
             answering: hosts,
             block,
         })

@@ -69,13 +69,30 @@ impl Layout {
         }
     }
 
-    /// The layout that needs fewer answers.
+    /// Layout 3 of a job.
+    fn third(job: &Job) -> Layout {
+        let stride = job.n * job.p;
+        let blocks = job.m * stride;
+        Layout {
+            number: 3,
+            stride_a: stride,
+            mask_a: blocks,
+            stride_b: job.p,
+            mask_b: blocks,
+            needed: 2 * blocks + job.xa + job.xb - 1,
+        }
+    }
+
+    /// The layout that needs the fewest answers, at a tie the one with the lower number.
     fn choose(job: &Job) -> Layout {
         let (first, second) = (Layout::first(job), Layout::second(job));
-        if first.needed <= second.needed {
+        let third = Layout::third(job);
+        if first.needed <= second.needed && first.needed <= third.needed {
             first
-        } else {
+        } else if second.needed <= third.needed {
             second
+        } else {
+            third
         }
     }
 }
