@@ -77,7 +77,7 @@ fn hand_values() {
     assert_eq!(signed_reading(&SignedReading { modulus, element }), Ok(-6));
 }
 
-/// All calls, each once. Shares have a generator of their own: the other calls do not change with them.
+/// All calls, each once. Shares have a generator of their own: no other call changes with them.
 fn gathered() -> Vec<Call> {
     let random = &mut Random::new(2027);
     let mut calls = expected(shares::expected(random), Call::Share);

@@ -195,13 +195,33 @@ fn every_number(random: &mut Random) -> Expected<JobCall> {
     calls
 }
 
-/// Every group of at least 13 out of 15 hosts, for jobs with the smallest K that layout 3 has, 13.
+/// All hosts, and all but one or two of them.
+fn all_but_two(hosts: u32) -> impl Iterator<Item = u64> {
+    let all = u64::MAX >> (64 - hosts);
+    let pairs = (0..hosts).flat_map(move |one| (one..hosts).map(move |other| (one, other)));
+    [all]
+        .into_iter()
+        .chain(pairs.map(move |(one, other)| all & !(1 << one) & !(1 << other)))
+}
+
+/// Every group of at least K hosts, for jobs in layout 3 with one host more than K, and with two more
+/// for the smallest K that layout 3 has, 13.
 fn every_fit_group(random: &mut Random) -> Expected<JobCall> {
+    let lines = [
+        [2, 2, 1, 2, 2, 1, 2, 3, 3, 15],
+        [3, 2, 1, 2, 2, 1, 2, 3, 3, 15],
+        [2, 2, 2, 4, 2, 2, 2, 5, 5, 26],
+        [3, 2, 4, 2, 2, 2, 2, 5, 5, 26],
+        [2, 4, 2, 2, 2, 2, 2, 6, 5, 27],
+        [3, 2, 2, 2, 2, 2, 2, 5, 6, 27],
+        [3, 2, 3, 2, 2, 3, 2, 8, 7, 39],
+    ];
     let mut calls = Vec::new();
-    for modulus in [2, 3] {
-        let whole = draw_whole(random, [modulus, 2, 1, 2, 2, 1, 2, 3, 3, 15]);
-        assert_eq!((choose(&whole.job).number, whole.needed), (3, 13));
-        let groups = (0..1_u64 << 15).filter(|heard| heard.count_ones() >= 13);
+    for line in lines {
+        let whole = draw_whole(random, line);
+        assert_eq!(choose(&whole.job).number, 3);
+        let enough = |heard: &u64| heard.count_ones() as usize >= whole.needed;
+        let groups = all_but_two(line[9]).filter(enough);
         calls.extend(groups.map(|heard| heard_truly(random, &whole, heard)));
     }
     calls

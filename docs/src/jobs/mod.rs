@@ -29,19 +29,19 @@ use format::{word, Files, ALREADY_IN};
 #[rustfmt::skip]
 const FLOORS: &Floors = &[
     ("arrival", &[
-        (0, 3487), (1, 112), (2, 107), (3, 40), (4, 38), (5, 37), (6, 80), (7, 36), (8, 38),
+        (0, 3447), (1, 112), (2, 107), (3, 40), (4, 38), (5, 37), (6, 80), (7, 36), (8, 38),
         (9, 33), (10, 31), (11, 30), (12, 198), (13, 197), (14, 89), (16, 55), (17, 197), (18, 63),
-        (19, 63), (20, 163), (21, 139), (22, 373), (23, 779), (ALREADY_IN, 499),
+        (19, 63), (20, 163), (21, 139), (22, 373), (23, 779), (ALREADY_IN, 485),
     ]),
     ("decoding", &[
-        (0, 1016), (1, 28), (2, 28), (3, 27), (4, 25), (5, 24), (6, 27), (7, 23), (8, 25), (9, 20),
-        (10, 18), (11, 17), (13, 362), (14, 52), (21, 91), (24, 927),
+        (0, 1171), (1, 28), (2, 28), (3, 27), (4, 25), (5, 24), (6, 27), (7, 23), (8, 25), (9, 20),
+        (10, 18), (11, 17), (13, 362), (14, 52), (21, 91), (24, 922),
     ]),
-    ("store told", &[(0, 1390)]),
+    ("store told", &[(0, 1395)]),
 ];
 
 /// Checks the program, then writes the cases to one file and their outcomes to the other. The first
-/// stories have a generator of their own: the other calls do not change with them.
+/// stories have a generator of their own: no arrival by itself changes with them.
 pub fn write_files(stdin_file: &str, stdout_file: &str) {
     plan_check::run();
     let mut files = Files::new();

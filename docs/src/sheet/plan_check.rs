@@ -94,10 +94,12 @@ fn choice(job: &Job, [one, two, three]: [u32; 3]) {
     let Job {
         m, p, n, x_a, x_b, ..
     } = *job;
-    let number = match () {
-        _ if one <= two && one <= three => 1,
-        _ if two <= three => 2,
-        _ => 3,
+    let number = if one <= two && one <= three {
+        1
+    } else if two <= three {
+        2
+    } else {
+        3
     };
     let chosen = choose(job);
     assert_eq!(chosen.number, number);
