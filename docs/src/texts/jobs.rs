@@ -108,7 +108,7 @@ fn signed_ends() -> Vec<Case> {
 /// fifth the order is cut short.
 fn small_jobs(random: &mut Random) -> Vec<Case> {
     let mut cases = Vec::new();
-    for round in 0..96 {
+    for round in 0..160 {
         let line = small_line(random, round);
         let mut job = drawn(random, line, round / 8);
         job.order = disturbed(random, line[9]);
