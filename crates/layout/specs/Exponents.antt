@@ -1,4 +1,5 @@
--- Exponents (01, "Exponents"; document 000, equations 16 to 22; 02, U2; document 001, corollary 1).
+-- Exponents (01, "Exponents"; document 000, equations 16 to 22; 02, U2; document 001, lemma 2 and
+-- corollary 1).
 -- k, l, j and x count from 0 here, and from 1 on the sheet: what is k - 1 there is k here.
 --
 --   Exponents        == a layout as data: the exponents of A's blocks and masks, of B's, the places of C, and K
