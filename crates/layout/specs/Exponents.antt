@@ -58,7 +58,7 @@ layout2 g = record {
   needed = (g .n + 1) * strideE g + g .xb - g .xa - 1;
 }
 
--- both sides' masks follow all sums of blocks
+-- both sides' masks follow all places of C
 unfoldable pub layout3 : Parameters → Exponents
 layout3 g =
     let np = g .n * g .p in

@@ -80,7 +80,7 @@ fn nested(outer: u8, p: u8, inner: u8, outer_masks: u8, inner_masks: u8) -> Nest
     }
 }
 
-// Layout 3: both sides' masks come last, after all sums of blocks.
+// Layout 3: both sides' masks come last, after all places of C.
 fn masks_last(g: Parameters) -> Strides
     ensures { λ r. ⌜ Follows r g (layout3 g) ⌝ }
 {
