@@ -8,8 +8,9 @@
 --   thresholds    K by each layout
 --   choices       the number of the layout that is used: of the first two the better, of three at a tie the first or the second,
 --                 and the third
+--   table-iv      K of the layout that is used, for the rows of document 004, table IV, that are inside the sheet's limits
 use mathlib.Core.Path.{_≡_, refl}
-use mathlib.Core.List.{[], _∷_, _++_, map}
+use mathlib.Core.List.{List, [], _∷_, _++_, map}
 use Prim.Native.Nat.{ℕ}
 use Rattle.algebra.specs.Lists.{tab, grid}
 use Rattle.layout.specs.declared.Parameters.{Parameters}
@@ -55,3 +56,14 @@ choices : map (λ (g : Parameters). number (choice g)) (cuts ∷ equal 1 3 2 2 �
     ≡ 1 ∷ 2 ∷ 1 ∷ 2 ∷ 3 ∷ []
 unfolding choice better exponents layout1 layout2 layout3 strideD strideE
 choices = refl
+
+-- p, m, n and the size of both groups
+abbrev rows : List Parameters
+rows =
+    equal 2 2 2 2 ∷ equal 2 2 2 5 ∷ equal 2 2 3 2 ∷ equal 2 2 3 5 ∷ equal 2 3 2 2 ∷ equal 2 3 2 7
+    ∷ equal 3 2 2 7 ∷ equal 3 4 4 2 ∷ equal 4 3 3 2 ∷ equal 4 5 5 2 ∷ equal 5 4 4 2 ∷ equal 5 5 5 2 ∷ []
+
+table-iv : map (λ (g : Parameters). exponents (choice g) g .needed) rows
+    ≡ 17 ∷ 25 ∷ 23 ∷ 32 ∷ 23 ∷ 37 ∷ 37 ∷ 69 ∷ 55 ∷ 131 ∷ 109 ∷ 161 ∷ []
+unfolding choice better exponents layout1 layout2 layout3 strideD strideE
+table-iv = refl
