@@ -31,9 +31,8 @@ use Rattle.share_side.specs.Sides.{side, sideExponents, blockLength, mat
 use Rattle.share_side.specs.Contracts.{planSide, Small}
 
 pub plan-side : (m : Matrix) (job : Job) → planSide m (planOf job) ≡ side m job
-unfolding planSide side planOf parameters
-plan-side A job = refl
-plan-side B job = refl
+unfolding planSide side planOf
+plan-side m job = refl
 
 pub side-small : (m : Matrix) (job : Job) → Fits job → Small (side m job)
 unfolding side parameters
