@@ -48,6 +48,7 @@ module _ (g : Parameters) where
   Ahead : Layout → Type 0
   Ahead l = (b : Layout) → (k l ≤ k b) × (number b < number l → k l < k b)
 
+  -- a layout ahead of all is rightly chosen
   ahead-chosen : {l : Layout} → Ahead l → l ≡ choice g → Chosen g (choice g)
   unfolding Ahead
   ahead-chosen {l} ahead is =
@@ -57,6 +58,7 @@ module _ (g : Parameters) where
         lowest = λ b e. ⊎-elim (λ h. h) (λ h. omega (arith, ahead b .1 h)) (le-or-lt (number l) (number b));
       })
 
+  -- each is ahead where it is chosen
   first-ahead : k First ≤ k Second → k First ≤ k Third → Ahead First
   unfolding Ahead
   first-ahead h i First = (omega arith, λ l. omega arith)

@@ -10,14 +10,14 @@ use Prim.Native.Nat.{ℕ, suc, _+_, _-_, _*_, _%_, _<_, _≤_}
 use native.Mathlib.Omega.{arith}
 use lib.ListN.{length, getD, drop, length-map}
 use lib.Seq.{ext-getD, getD-take, getD-drop}
-use Rattle.algebra.specs.Lists.{tab, stack, grid, entry, AllBelow}
+use Rattle.algebra.specs.Lists.{tab, stack, grid, entry}
 use Rattle.algebra.specs.Sets.{size}
 use Rattle.algebra.specs.Polynomials.{coefficient}
 use Rattle.algebra.proofs.Orders.{row-end}
 use Rattle.algebra.proofs.Lists.{getD-map}
 use Rattle.algebra.proofs.Grids.{grid-cong}
 use Rattle.algebra.proofs.Stacks.{stack-cong, stack-tab, grid-tab, stack-grid}
-use Rattle.algebra.proofs.Points.{pointsAt, points-each}
+use Rattle.algebra.proofs.Points.{pointsAt}
 use Rattle.layout.specs.Exponents.{Exponents, exponents}
 use Rattle.plan.specs.declared.Job.{Job}
 use Rattle.plan.specs.Planning.{prime, parameters, layoutOf, neededOf, blockRows, blockInner, blockColumns}
@@ -32,7 +32,7 @@ use Rattle.arrival.specs.Arriving.{answerLength, blockAt}
 use Rattle.decode.specs.Decoding.{answerEntry, chosen, tableEntry, blocks, tableOf}
 use Rattle.decode.proofs.Chosen.{Chosen, chosen-hosts}
 use Rattle.promise.specs.Demand3.{Task, Accepted}
-use Rattle.promise.specs.Layouts.{Points, answerOf}
+use Rattle.promise.specs.Layouts.{answerOf}
 use Rattle.promise.proofs.Layouts.{job-shown}
 
 -- ---- blocks as one matrix
@@ -95,16 +95,6 @@ module _ (x : Task) (f : Facts (x .job) (x .points)) where
     used : List ℕ
     used = pointsAt (x .points) (chosen job heard)
 
-    used-points : Points (prime job) used
-    unfolding used
-    used-points =
-        let inside : AllBelow (length (x .points)) (chosen job heard) = λ k h. omega (arith, f .points-length, c .within k h) in
-        record {
-          below = c .below;
-          nonzero = points-each (x .points) (chosen job heard) inside (λ n. 0 < n) (f .points-pos);
-          distinct = c .distinct;
-        }
-
     count : length used ≡ e .needed
     unfolding used neededOf
     count = length-map (chosen job heard) (λ h. getD (x .points) h 0) ∙ c .count
@@ -145,7 +135,7 @@ module _ (x : Task) (f : Facts (x .job) (x .points)) where
         (job .m) (blockRows job) (job .n) (blockColumns job)
         (λ k j i v hk hj hi hv.
         ap (λ (ys : List ℕ). coefficient (prime job) used ys (e .place k j)) (values i v hi hv)
-        ∙ job-shown job (f .fits) .decodes used used-points count (x .a) ma (x .b) mb k j i v hk hj hi hv)
+        ∙ job-shown job (f .fits) .decodes used (c .below) (c .distinct) count (x .a) ma (x .b) mb k j i v hk hj hi hv)
 
 pub exact : (x : Task) → Accepted x → (ma mb : List ℕ) (heard : ℕ) (store : List ℕ)
     → neededOf (x .job) ≤ size (isHeard heard) (x .job .hosts)

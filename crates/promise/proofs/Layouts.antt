@@ -51,10 +51,10 @@ module _ {q : ℕ} (is-prime : Prime q) (g : Parameters) (rows inner columns : �
         matched e own group
         (solvable-powers is-prime group (points .below) (points .nonzero) (points .distinct) (own .«mask_count») few (term e (own .masks) 0) (f .0) (f .1))
         (omega (arith, is-prime .above-one)) xs ys;
-    decodes = λ xs points many a ma b mb k j i v hk hj hi hv.
+    decodes = λ xs below distinct many a ma b mb k j i v hk hj hi hv.
         let cs : ℕ → ℕ = coefficients g rows inner columns e a ma b mb i v in
         let answer : ℕ → ℕ = λ x. getD (answerOf q g rows inner columns e x a ma b mb) (i * columns + v) 0 in
-        recover is-prime xs (map answer xs) (points .below) (points .distinct) (tab cs (e .needed)) (omega (arith, length-tab cs (e .needed)))
+        recover is-prime xs (map answer xs) below distinct (tab cs (e .needed)) (omega (arith, length-tab cs (e .needed)))
         (λ n l. ≈-trans (≈-of-eq (getD-map answer xs n l)) (answer-is g rows inner columns e a ma b mb i v s (getD xs n 0) hi hv))
         (e .place k j)
         ∙ ap (λ (n : ℕ). n % q) (getD-tab cs (e .needed) (e .place k j) 0 (place-below g e cut s k j hk hj))

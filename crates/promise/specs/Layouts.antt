@@ -1,5 +1,5 @@
 -- Privacy and exact tables for all layouts (02, U2: "Privacy and exact tables are to hold for all three, shown once over a list of
--- exponents."). A layout is its exponents, as data: what is shown holds for any that are sound, by whatever layout.
+-- exponents."). A layout is its exponents, as data: what is shown holds for any that are sound, and no layout's number stands in it.
 --
 --   Points q xs              == xs are points of hosts: below q, not 0, distinct
 --   MasksFor q s ms          == ms are masks of a side: of exact length, with elements below q
@@ -56,8 +56,8 @@ answerOf q g rows inner columns e x a ma b mb =
 pub record Shown (q : ℕ) (g : Parameters) (rows inner columns : ℕ) (e : Exponents) : Type 0 where
   pub hides : (m : Matrix) (group : List ℕ) → Points q group → let s = cutSide m g rows inner columns in
       length group ≤ s .«mask_count» → (xs ys : List ℕ) → Matched q e s group xs ys
-  -- the element at i, v of C(k,j), from the answers at K points
-  pub decodes : (xs : List ℕ) → Points q xs → length xs ≡ e .needed → (a ma b mb : List ℕ) (k j i v : ℕ)
+  -- the element at i, v of C(k,j), from the answers at K points, of which one may be 0
+  pub decodes : (xs : List ℕ) → AllBelow q xs → Distinct xs → length xs ≡ e .needed → (a ma b mb : List ℕ) (k j i v : ℕ)
       → k < g .m → j < g .n → i < rows → v < columns
       → coefficient q xs (map (λ x. getD (answerOf q g rows inner columns e x a ma b mb) (i * columns + v) 0) xs) (e .place k j)
       ≡ productEntry (g .p * inner) (g .n * columns) a b (k * rows + i) (j * columns + v) % q
