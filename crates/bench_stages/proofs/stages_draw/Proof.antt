@@ -1,7 +1,6 @@
 -- `bench_stages::stages_draw` meets its contract.
-use mathlib.Core.Path.{_≡_, sym, ap, _∙_}
+use mathlib.Core.Path.{sym, ap, _∙_}
 use borrow.Author.Needs.{needs}
-use lib.ListN.{length}
 use Rattle.masks.specs.declared.Drawn.{Drawn}
 use Rattle.masks.specs.Drawing.{told}
 use Rattle.bench_stages.specs.Stages.{usedAfter}
@@ -21,13 +20,19 @@ same-length : tie.Need-same-length
 same-length c = search needs
 
 returns : tie.Need-returns
-returns c = ?
+returns c =
+    let d = c .before .before .before .before .before .draw-masks .ensures in
+    let refused = sym (d .0) ∙ c .before .drawn .given .1 in
+    (sym (ap (λ (r : Drawn). told r .number) refused), (d .1, sym (ap (usedAfter _) refused)))
 
 same-length-2 : tie.Need-same-length-2
 same-length-2 c = search needs
 
 returns-2 : tie.Need-returns-2
-returns-2 c = ?
+returns-2 c =
+    let d = c .before .before .before .before .before .draw-masks .ensures in
+    let used = sym (d .0) ∙ c .before .drawn2 .given .1 in
+    (sym (ap (λ (r : Drawn). told r .number) used), (d .1, sym (ap (usedAfter _) used)))
 
 pub stages-draw-spec : {M : Type 1} → statement M
 stages-draw-spec =
