@@ -4,3 +4,4 @@ pub mod Filled
 pub mod Loops
 pub mod Outcomes
 pub mod Uniform
+pub mod Examples

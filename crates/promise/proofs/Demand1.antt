@@ -20,6 +20,8 @@ use Rattle.plan.specs.declared.Job.{Job}
 use Rattle.plan.specs.Planning.{planTests}
 use Rattle.plan.proofs.Outcomes.{plan-told}
 use Rattle.plan.proofs.Then.{plan-numbered}
+use Rattle.masks.specs.Drawing.{drawTests, masksAfter}
+use Rattle.masks.proofs.Outcomes.{draw-told}
 use Rattle.share_side.specs.Sides.{matrixTests}
 use Rattle.share.specs.Sharing.{shareTests, shareAfter}
 use Rattle.product.specs.Product.{productTests, productAfter}
@@ -124,9 +126,12 @@ after-plan : (job : Job) (points : List ℕ) (tests : List Test) → T (numbered
 after-plan job points tests = numbered-append (planTests job points) tests (plan-numbered job points)
 
 pub demand-1 : Demand1
-unfolding shareTests matrixTests shareAfter productTests productAfter hostTests hostAfter fieldTests writeTests messageTests headerTests readTests written readInto stateTests answerTests againTests arrivalTests entered storeEntered arrived storeAfter put next decodeTests tableTests tableAfter numbered
+unfolding drawTests masksAfter shareTests matrixTests shareAfter productTests productAfter hostTests hostAfter fieldTests writeTests messageTests headerTests readTests written readInto stateTests answerTests againTests arrivalTests entered storeEntered arrived storeAfter put next decodeTests tableTests tableAfter numbered
 demand-1 = record {
   plan = λ job points. tells (planTests job points) _ (plan-numbered job points) (plan-told job points);
+  draw = λ n words out.
+      let is = draw-told n words (length out) in
+      (tells _ _ tt is, called _ _ _ tt (ap (λ a. a .number) is ∙ told-number _ _));
   share = λ m job points host xs ms out. called _ _ _ (after-plan job points _ tt) refl;
   product = λ n rows inner columns a b out. called _ _ _ tt refl;
   host = λ n rows inner columns a b out. called _ _ _ tt refl;

@@ -20,3 +20,4 @@ pub mod WholeNumbers
 pub mod Demand3
 pub mod Order
 pub mod Retried
+pub mod DrawnMasks

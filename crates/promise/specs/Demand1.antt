@@ -2,7 +2,8 @@
 -- the named part of a lent buffer is written. Every other input, a garden heard a second time included, gets the first refusal
 -- number that fits it in the sheet's order, and no element of any lent buffer changes."
 -- It is said of the definitions that the calls' contracts cite; a call returns its number, and 0 means carried out. "A garden heard
--- a second time" gets 23 where its message differs from the first, and is "already in" where it does not (02, U1).
+-- a second time" gets 23 where its message differs from the first, and is "already in" where it does not (02, U1). A drawing of masks
+-- (02, U3) is a call like the others.
 --
 --   test tests i              == the test at i
 --   Judged tests n            == n is 0 exactly where no test holds; otherwise it is the number of the first that does
@@ -14,7 +15,7 @@
 use mathlib.Core.Path.{_≡_}
 use mathlib.Core.Bool.{true, false, cond}
 use mathlib.Core.Logic.{_↔_}
-use mathlib.Core.List.{List, [], _++_}
+use mathlib.Core.List.{List, [], _∷_, _++_}
 use Prim.Native.Nat.{ℕ, _<_}
 use lib.ListN.{length, getD, drop}
 use Rattle.refusal.specs.Chain.{Test, first, Told}
@@ -22,6 +23,8 @@ use Rattle.field.specs.Modulus.{modulus}
 use Rattle.plan.specs.declared.Job.{Job}
 use Rattle.plan.specs.Planning.{planTests, planned, planValues}
 use Rattle.plan.specs.Planning.{told as Planning·told}
+use Rattle.masks.specs.Drawing.{drawn, used, drawTests, drawOutcome, masksAfter}
+use Rattle.masks.specs.Drawing.{told as Drawing·told}
 use Rattle.share_side.specs.declared.Matrix.{Matrix}
 use Rattle.share.specs.Sharing.{hostShare, shareTests, shareAfter}
 use Rattle.product.specs.Product.{productOf, productTests, productAfter}
@@ -56,6 +59,11 @@ pub record Tells {A : Type 0} (tests : List Test) (t : Told A) (values : List A)
 pub record Demand1 : Type 0 where
   -- layout, K and the sizes of blocks are told
   pub plan : (job : Job) (points : List ℕ) → Tells (planTests job points) (Planning·told (planned job points)) (planValues job)
+  -- how many words are used is told
+  pub draw : (n : ℕ) (words out : List ℕ) → let tests = drawTests n words (length out) in
+      let t = Drawing·told (drawOutcome n words (length out)) in
+      Tells tests t (used (modulus n) (length out) words ∷ [])
+      × Obeys tests (t .number) (masksAfter n words out) (drawn (modulus n) (length out) words) out
   pub share : (m : Matrix) (job : Job) (points : List ℕ) (host : ℕ) (xs ms out : List ℕ)
       → let tests = shareTests m job points host xs ms (length out) in
       Obeys tests (first tests) (shareAfter m job points host xs ms out) (hostShare m job points host xs ms) out

@@ -6,4 +6,5 @@ pub mod Demand2
 pub mod Demand3
 pub mod Layouts
 pub mod Retried
+pub mod DrawnMasks
 pub mod WholeNumbers
