@@ -4,7 +4,7 @@
     docs/believe.py            writes docs/BELIEVE.md
     docs/believe.py --check    ends with 1 where docs/BELIEVE.md is not what it would write, or has too many lines
 
-It follows every name that a definition uses, from the roots on, through the `use` lines of its file: to definitions of
+It follows every name that a definition uses, from the demands and the landed requests on, through the `use` lines of its file: to definitions of
 crates/*/specs, and to the structs and enums of the code that these speak of. A statement is a record that relates values; all
 else is a definition. Lines are counted from the signature to the end, without comments.
 """
@@ -14,8 +14,9 @@ from pathlib import Path
 
 TOP = Path(__file__).resolve().parent.parent
 PAGE = TOP / "docs" / "BELIEVE.md"
-ROOTS = [("promise", f"Demand{n}", f"Demand{n}") for n in (1, 2, 3)] + [("promise", "Retried", "RetriedUploads"), ("promise", "Layouts", "Layouts")]
-MOST_LINES = 600
+DEMANDS = [("promise", f"Demand{n}", f"Demand{n}") for n in (1, 2, 3)]
+REQUESTS = [("promise", "Retried", "RetriedUploads"), ("promise", "Layouts", "Layouts"), ("promise", "DrawnMasks", "DrawnMasks")]
+MOST_LINES = 560 + 20 * len(REQUESTS)
 RELATION = re.compile(r"[≡≤<↔≈]")
 
 OPENING = re.compile(r"^(\s*)(?:unfoldable |abbrev )?pub (?:(?:record|data) )?([^\s:]+)(?=[\s:])")
@@ -92,7 +93,7 @@ def types_within(crate, path, lines, types):
 def believed():
     """What the roots are made of: file, name and lines of each definition, struct and enum."""
     files, types = read_all()
-    seen, left = {}, list(ROOTS)
+    seen, left = {}, DEMANDS + REQUESTS
     while left:
         crate, module, name = left.pop()
         if module.startswith("declared."):
@@ -169,7 +170,7 @@ def page():
     text = [
         "# What must be believed",
         "",
-        "The three demands are the records `Demand1`, `Demand2` and `Demand3`; of the requests, U1 is the record `Retried` and U2 the record `Layouts`",
+        "The three demands are the records `Demand1`, `Demand2` and `Demand3`; of the requests, U1 is the record `Retried`, U2 `Layouts` and U3 `DrawnMasks`",
         "(`crates/promise/specs`). Who wants to see that they say what the papers say reads the definitions and the statements below, each file after those that",
         "it uses, and needs nothing else. All else in `specs/` is how the code does it, in files named `Contracts`, or what is promised beside these. Everything",
         "in `proofs/` is checked by the prover.",
