@@ -16,8 +16,10 @@ ROOT = Path(__file__).resolve().parent.parent
 LIST = ROOT / "trials" / "edits.txt"
 FOLDERS = {"ci": "crates/*/must-fail", "trials": "trials/edits/*"}
 
-# In this crate the definitions' values are what is proved: an edit of a statement of its own needs no further example.
+# In this crate the definitions' values are what is proved: an edit of its own needs no further example. Elsewhere that holds of a
+# statement, a record that is proved.
 STATEMENTS = "promise"
+GROUP = re.compile(r"^file: (.*)\nold: (.*)\n", re.M)
 
 ERROR = re.compile(r"^(\S+?):\d+:\d+: error(\[[\w-]+\])?: (?:`([^`]+)`: )?(.*)")
 NOTE = re.compile(r"^note: (\S+?):\d+:\d+: .*\(`([^`]+)`\)")
@@ -36,9 +38,13 @@ UNFIT = [
 # What the first message says where a fact fails: two sides differ, or a tactic finds no proof.
 FACT = re.compile(r"the two (types|sides)|^expected type|^`(omega|search|cc|rw|grw|simp)`: |^give a proof of that as the last argument")
 
-# An example that fails by its value: both sides are computed, to numbers.
+# An example that fails by its value: both sides are computed, to numbers. Of short lists the whole equation is printed.
 VALUE = r"[\d\s∷\[\]]+"
-CHANGED = re.compile(rf"computed as far as they go, the two types [^`]*`({VALUE})` \(expected\)(?: right after `[^`]*`|[^`])* has `({VALUE})` \(found\)")
+CHANGED = re.compile(
+    r"computed as far as they go, the two types "
+    rf"(?:[^`]*`({VALUE})` \(expected\)(?: right after `[^`]*`|[^`])* has `({VALUE})` \(found\)"
+    rf"|are `Path \(List ℕ\) \(({VALUE})\) \(({VALUE})\)` \(expected\))"
+)
 
 
 def listed():
@@ -108,7 +114,17 @@ def value_changed(name, log):
             inside = bool(m) and m[1].endswith(f"/{name}/proofs/Examples.antt")
         if inside:
             text += " " + line.strip()
-    return any(m[1].split() != m[2].split() for m in CHANGED.finditer(text))
+    return any((m[1] or m[3]).split() != (m[2] or m[4]).split() for m in CHANGED.finditer(text))
+
+
+def of_statement(name, edit):
+    """All that is edited stands in a record of specs/, or is a line that brings names."""
+    for file, old in GROUP.findall(edit):
+        text = (ROOT / "crates" / name.split("/")[0] / file).read_text()
+        before = text[: text.index(old)].split("\n\n")[-1]
+        if not old.startswith("use ") and not before.startswith("pub record "):
+            return False
+    return True
 
 
 def faults(name, place, edit, log):
@@ -139,7 +155,8 @@ def faults(name, place, edit, log):
         found.append(f"first refused at: {at}; the list has: {place}")
     if re.search(r"^file: proofs/", edit, re.M):
         found.append("it edits a proof")
-    if re.search(r"^file: specs/", edit, re.M) and not name.startswith(STATEMENTS + "/") and not value_changed(name, log):
+    proved = name.startswith(STATEMENTS + "/") or of_statement(name, edit)
+    if re.search(r"^file: specs/", edit, re.M) and not proved and not value_changed(name, log):
         found.append("it edits a definition, and no value of proofs/Examples.antt changed")
     return found[:2]
 
