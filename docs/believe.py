@@ -4,9 +4,9 @@
     docs/believe.py            writes docs/BELIEVE.md
     docs/believe.py --check    ends with 1 where docs/BELIEVE.md is not what it would write, or has too many lines
 
-It follows every name that a definition uses, from the demands and the landed requests on, through the `use` lines of its file: to definitions of
-crates/*/specs, and to the structs and enums of the code that these speak of. A statement is a record that relates values; all
-else is a definition. Lines are counted from the signature to the end, without comments.
+It follows every name that a definition uses, from the demands and the landed requests on, through the `use` lines of its file: to
+definitions of crates/*/specs, and to the structs and enums of the code that these speak of. A statement is a record that relates
+values; all else is a definition. Lines are counted from the signature to the end, without comments.
 """
 import re
 import sys
