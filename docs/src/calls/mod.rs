@@ -20,6 +20,7 @@ use std::collections::HashSet;
 use crate::cases::counts::{hold, Counts, Floors};
 use crate::cases::faults::Expected;
 use crate::cases::save;
+use crate::sheet::masks_check;
 use crate::sheet::message::{read, write, Reading, Writing};
 use crate::sheet::plan_check;
 use crate::sheet::product::product;
@@ -52,6 +53,7 @@ const FLOORS: &Floors = &[
 /// Checks the program, then writes the cases to one file and their outcomes to the other.
 pub fn write_files(stdin_file: &str, stdout_file: &str) {
     plan_check::run();
+    masks_check::run();
     hand_values();
     let calls = gathered();
     calls.iter().for_each(reads_back);
