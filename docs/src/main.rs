@@ -4,10 +4,10 @@
 //! checks itself, then writes its cases and what is due to them.
 //!
 //!   sheet   the sheet's calls: plans, shares, products, messages, arrivals, decodings, signed
-//!           reading, the lister's text
+//!           reading, masks, the lister's text
 //!   cases   what the makers of cases have in common
 //!   lister  the subcommand `lister`: inputs of the plan lister
-//!   calls   the subcommand `calls`: shares, products, messages and signed reading
+//!   calls   the subcommand `calls`: shares, products, messages, signed reading and masks
 //!   jobs    the subcommand `jobs`: arrivals and decodings, alone and in whole jobs
 //!   texts   the subcommand `texts`: whole jobs as plain texts
 //!
