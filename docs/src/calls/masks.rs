@@ -1,9 +1,11 @@
 //! Cases of drawing masks: words about the limit of each modulus, alone and mixed, skipped words in all
 //! places, wanted elements about the count of usable words, and numbers that are no modulus.
 //!
-//!   expected  all of them
+//!   expected        all of them
+//!   lowest_skipped  the lowest word that is skipped
+//!   mixed           words by chance
 
-use crate::cases::faults::Expected;
+use crate::cases::faults::{Expected, NO_MODULUS};
 use crate::sheet::masks::{limit, Drawing, WORDS};
 use crate::sheet::plan::{moduli, prime};
 use crate::sheet::random::Random;
@@ -25,7 +27,7 @@ pub fn expected(random: &mut Random) -> Expected<Drawing> {
 }
 
 /// A word, and whether it is usable.
-type Marked = (u32, bool);
+pub type Marked = (u32, bool);
 
 /// Cases of each modulus, made from its number and its prime.
 fn over_moduli(mut made: impl FnMut(u32, u32) -> Expected<Drawing>) -> Expected<Drawing> {
@@ -46,7 +48,7 @@ fn of(modulus: u32, words: &[Marked], room: usize) -> (Drawing, u32) {
 }
 
 /// The lowest word that is skipped.
-fn lowest_skipped(q: u32) -> u32 {
+pub fn lowest_skipped(q: u32) -> u32 {
     u32::try_from(limit(WORDS, q)).expect("a word is skipped for each modulus")
 }
 
@@ -149,33 +151,34 @@ fn skipped_runs(random: &mut Random, modulus: u32, q: u32) -> Expected<Drawing> 
     cases
 }
 
-/// Words by chance, few or many of them skipped or about a limit, and any number of elements wanted.
+/// Words by chance, some about a limit, and up to four of six skipped.
+pub fn mixed(random: &mut Random, q: u32, count: u32, skips: u32) -> Vec<Marked> {
+    let word = |_| match random.within(0, 5) {
+        0 => edges(q)[random.index(6)],
+        way if way <= skips => skipped(random, q),
+        _ => usable(random, q),
+    };
+    (0..count).map(word).collect()
+}
+
+/// Words by chance, few or many of them skipped, and any number of elements wanted.
 fn mixtures(random: &mut Random, modulus: u32, q: u32) -> Expected<Drawing> {
     let mut cases = Vec::new();
     for round in 0..60 {
         let most = if round % 10 == 0 { 150 } else { 12 };
-        let skips = round % 5;
-        let words: Vec<Marked> = (0..random.within(1, most))
-            .map(|_| match random.within(0, 5) {
-                0 => edges(q)[random.index(6)],
-                way if way <= skips => skipped(random, q),
-                _ => usable(random, q),
-            })
-            .collect();
+        let count = random.within(1, most);
+        let words = mixed(random, q, count, round % 5);
         let room = random.within(0, most) as usize;
         cases.push(of(modulus, &words, room.min(words.len() + 1)));
     }
     cases
 }
 
-/// Numbers that are no modulus: neighbours of the moduli, primes, numbers whose low bits are those of a
-/// modulus, and the largest; with no element wanted, with too few words and with enough. 27 fits some
-/// of them, and 1 is due.
+/// Numbers that are no modulus, with no element wanted, with enough words and with too few: there 27
+/// would be due after 1.
 fn no_modulus(random: &mut Random) -> Expected<Drawing> {
-    let last = moduli().last().expect("a modulus number");
-    let near = [0, last + 1, last + 2, 13, 257, 65537, (1 << 31) + 1];
     let mut cases = Vec::new();
-    for modulus in near.into_iter().chain([u32::MAX]) {
+    for modulus in NO_MODULUS {
         let mut lists = [(0, 0), (3, 0), (0, 1), (2, 3), (3, 3), (4, 3)]
             .map(|(count, room)| (random.words(count), room))
             .to_vec();
