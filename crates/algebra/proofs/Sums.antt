@@ -2,6 +2,8 @@
 --
 --   sum-cong sum-≈         equal, or congruent, terms
 --   sum-zero               terms that are all 0
+--   sum-flat               terms that are all the same
+--   sum-pick               only the term at v counts
 --   sum-none               terms that are all 0 modulo q
 --   sum-bound              n terms that are each at most b
 --   sum-add sum-mul        the sum of sums; a factor taken out
@@ -9,10 +11,13 @@
 --   sum-swap               the order of two sums
 --   sum-more sum-split     a sum in two parts, and in n parts of m terms
 use mathlib.Core.Path.{_≡_, refl, sym, ap, ap₂, _∙_}
+use mathlib.Core.Bool.{Bool, false, cond}
 use mathlib.Core.Logic.{⊎-elim}
 use Prim.Native.Nat.{ℕ, zero, suc, _+_, _*_, _<_, _≤_}
 use native.Mathlib.Nat.{not-suc-le-zero, mul-zero, mul-add, add-zero, add-suc, lt-suc-self}
 use native.Mathlib.Omega.{arith}
+use lib.Dec.{eqb}
+use borrow.Author.Tests.{eq-eqb, ne-eqb}
 use Rattle.algebra.specs.Sums.{sum}
 use Rattle.algebra.specs.Modular.{⟨_⟩_≈_}
 use Rattle.algebra.proofs.Orders.{eq-or-ne}
@@ -32,6 +37,28 @@ pub sum-zero : (n : ℕ) → sum n (λ i. 0) ≡ 0
 unfolding sum
 sum-zero zero = refl
 sum-zero (suc n) = ap (λ (x : ℕ). x + 0) (sum-zero n)
+
+pub sum-flat : (n x : ℕ) → sum n (λ i. x) ≡ n * x
+unfolding sum
+sum-flat zero x = omega arith
+sum-flat (suc n) x = omega (arith, sum-flat n x)
+
+-- none of the first n is v
+sum-miss : (n v x : ℕ) → n ≤ v → sum n (λ i. cond (eqb i v) x 0) ≡ 0
+unfolding sum
+sum-miss zero v x h = refl
+sum-miss (suc n) v x h =
+    let other : eqb n v ≡ false = ne-eqb n v (λ (e : n ≡ v). omega arith) in
+    ap₂ (λ (a : ℕ) (b : Bool). a + cond b x 0) (sum-miss n v x (omega arith)) other
+
+pub sum-pick : (n v x : ℕ) → v < n → sum n (λ i. cond (eqb i v) x 0) ≡ x
+unfolding sum
+sum-pick zero v x h = absurd (not-suc-le-zero h)
+sum-pick (suc n) v x h =
+    ⊎-elim
+    (λ (e : n ≡ v). ap₂ (λ (a : ℕ) (b : Bool). a + cond b x 0) (sum-miss n v x (omega arith)) (eq-eqb n v e) ∙ omega arith)
+    (λ (ne : n ≡ v → ⊥). ap₂ (λ (a : ℕ) (b : Bool). a + cond b x 0) (sum-pick n v x (omega arith)) (ne-eqb n v ne) ∙ omega arith)
+    (eq-or-ne n v)
 
 pub sum-bound : (n b : ℕ) (f : ℕ → ℕ) → ((i : ℕ) → i < n → f i ≤ b) → sum n f ≤ n * b
 unfolding sum

@@ -4,11 +4,14 @@
 --   headerOf fields    == the header with these fields
 --   matrixOf second    == A, or the second matrix, B
 --   neededAfter        == K where planning accepts the job; what stood there where it does not
+--   usedAfter          == how many words a drawing used; what stood there where it is refused
 use mathlib.Core.Bool.{Bool, true, false}
 use Prim.Native.Nat.{ℕ}
 use Rattle.plan.specs.declared.Job.{Job}
 use Rattle.plan.specs.declared.Planned.{Planned}
 use Rattle.plan.specs.declared.Planned.the-variants.{Accepted, Refused}
+use Rattle.masks.specs.declared.Drawn.{Drawn}
+use Rattle.masks.specs.declared.Drawn.the-variants.{Used, Refused as Drawn·Refused}
 use Rattle.message_header.specs.declared.Header.{Header}
 use Rattle.share_side.specs.declared.Matrix.{Matrix}
 use Rattle.share_side.specs.declared.Matrix.the-variants.{A, B}
@@ -47,3 +50,7 @@ matrixOf true = B
 abbrev pub neededAfter : ℕ → Planned → ℕ
 neededAfter before (Accepted plan) = plan .needed
 neededAfter before (Refused n) = before
+
+abbrev pub usedAfter : ℕ → Drawn → ℕ
+usedAfter before (Used n) = n
+usedAfter before (Drawn·Refused n) = before

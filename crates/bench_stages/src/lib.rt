@@ -3,13 +3,15 @@ ghost use mathlib.Core.Path.{_≡_};
 ghost use lib.ListN.{length};
 ghost use Rattle.refusal.specs.Chain.{first};
 ghost use Rattle.plan.specs.Planning.{planned, told as Plan·told};
+ghost use Rattle.masks.specs.Drawing.{drawOutcome, masksAfter, told as Draw·told};
 ghost use Rattle.share.specs.Sharing.{shareTests, shareAfter};
 ghost use Rattle.product.specs.Product.{productTests, productAfter};
 ghost use Rattle.message.specs.Format.{writeTests, written, readAs, readInto, told as Format·told};
 ghost use Rattle.arrival.specs.Arriving.{arrived, storeAfter, numberOf, heardAfter};
 ghost use Rattle.decode.specs.Decoding.{decodeTests, tableAfter};
-ghost use Rattle.bench_stages.specs.Stages.{jobOf, headerOf, matrixOf, neededAfter};
+ghost use Rattle.bench_stages.specs.Stages.{jobOf, headerOf, matrixOf, neededAfter, usedAfter};
 use arrival::Arrived;
+use masks::Drawn;
 use message::Parsed;
 use message_header::Header;
 use plan::Job;
@@ -94,6 +96,24 @@ pub extern "C" fn stages_plan(numbers: Numbers, points: &[u32], needed: &mut u32
         Planned::Refused(number) => number,
         Planned::Accepted(plan) => {
             *needed = plan.needed;
+            0
+        }
+    }
+}
+
+// Draws masks from random words: used is then how many were used, or the call is refused by number and used stays as it was.
+#[no_mangle]
+pub extern "C" fn stages_draw(modulus: u32, words: &[u32], out: &mut [u32], used: &mut usize) -> u32
+    ensures number { λ r. ⌜ r ≡ Draw·told (drawOutcome modulus (now (words .entry)) (length (now (out .entry)))) .number ⌝ }
+    ensures masks { λ _. ⌜ now (out .exit) ≡ masksAfter modulus (now (words .entry)) (now (out .entry)) ⌝ }
+    ensures used { λ _. let outcome = drawOutcome modulus (now (words .entry)) (length (now (out .entry))) in
+        ⌜ now (used .exit) ≡ usedAfter (now (used .entry)) outcome ⌝ }
+{
+    let drawn = masks::draw_masks(modulus, words, out);
+    match drawn {
+        Drawn::Refused(number) => number,
+        Drawn::Used(count) => {
+            *used = count;
             0
         }
     }

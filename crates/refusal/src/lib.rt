@@ -1,4 +1,4 @@
-// Refusals: the numbers of 01, "What is turned down", and the tests that several calls share.
+// Refusals: the numbers of 01, "What is turned down", and of 02, and the tests that several calls share.
 ghost use mathlib.Core.Path.{_≡_};
 ghost use Prim.Native.Nat.{_*_};
 ghost use lib.Dec.{ltb};
@@ -57,6 +57,8 @@ pub const TOO_FEW: u32 = 24;
 pub const SIGNED: u32 = 25;
 
 pub const TEXT: u32 = 26;
+
+pub const WORDS: u32 = 27;
 
 // The largest numbers that several calls test (01, "The job"): a size, the elements of a block, and the hosts.
 pub const MOST_SIZE: u32 = 16384;

@@ -1,6 +1,6 @@
-// Runs shares, products, messages and signed reading on many inputs: cases come from standard input, one after another, and
-// what they return goes to standard output. Both are those of the separate Rust program, whose docs/src/calls/format.rs tells their
-// format.
+// Runs shares, products, messages, signed reading and drawings of masks on many inputs: cases come from standard input, one after
+// another, and what they return goes to standard output. Both are those of the separate Rust program, whose docs/src/calls/format.rs
+// tells their format.
 ghost use mathlib.Core.Path.{_≡_};
 ghost use Prim.Native.Nat.{_≤_};
 ghost use lib.ListN.{length};
@@ -8,10 +8,12 @@ ghost use Rattle.io.specs.Counts.{Counts};
 use field_signed::Element;
 use field_signed::Signed;
 use libc::STDOUT_FILENO;
+use masks::Drawn;
 use message::Parsed;
 use message_header::Header;
 use plan::Job;
 use share::Matrix;
+use words::least;
 
 // Where the lists of a case end, one after another.
 struct Ends {
@@ -184,6 +186,14 @@ fn run_way_back(head: [u32; HEAD_WORDS]) -> Element {
     field_signed::element_of(head[1], signed_value(head[2], head[3]))
 }
 
+// Writes what a drawing returns: 0 and how many words were used, or the refusal number.
+fn put_drawn(outcome: Drawn) {
+    match outcome {
+        Drawn::Refused(number) => test_io::put_number(number),
+        Drawn::Used(used) => test_io::put_words(&[0, least(used, MOST_WORDS) as u32]),
+    }
+}
+
 // Makes a call with an output of elements, and writes what it returns; false where there is no such call.
 fn run_call(
     head: [u32; HEAD_WORDS],
@@ -201,6 +211,7 @@ fn run_call(
         5 => put_parsed(message::read_message(message, out)),
         6 => put_signed(field_signed::signed_reading(head[1], head[2])),
         7 => put_element(run_way_back(head)),
+        8 => put_drawn(masks::draw_masks(head[1], xs, out)),
         _ => return false,
     }
     true

@@ -4,17 +4,17 @@ ghost use Prim.Native.Nat.{_<_};
 ghost use lib.ListN.{length};
 use crate::hosts::Turn;
 use crate::hosts::work;
+use crate::lines::put_end;
+use crate::lines::put_value;
 use crate::planning::Whole;
-use crate::printing::put_end;
-use crate::printing::put_value;
-use crate::printing::say;
-use crate::printing::say_front;
-use crate::printing::say_number;
 use crate::rooms::answer_size;
 use crate::rooms::message_size;
 use crate::sections;
 use crate::sections::numbers_of;
 use arrival::Arrived;
+use program_text::say;
+use program_text::say_front;
+use program_text::say_number;
 use words::least;
 
 // Prints what became of a host's answer: some words and a number.

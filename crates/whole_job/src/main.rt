@@ -4,8 +4,8 @@
 // README.md, "The text of a job", tells the format and every line that is printed.
 mod arrivals; // the answers taken, and the hosts heard
 mod hosts; // what a host does with its shares
+mod lines; // the numbers of a line
 mod planning; // the job, planned, with as many numbers as it needs
-mod printing; // lines, and text in a buffer
 mod rooms; // what main lends, sizes of blocks, and parts
 mod sections; // the sections of the text
 mod sharing; // shares for all hosts
@@ -15,8 +15,9 @@ use libc::STDIN_FILENO;
 use lister::LISTING_ROOM;
 use planning::Prepared;
 use planning::Whole;
-use printing::say;
-use printing::say_refused;
+use program_text::past_mark;
+use program_text::say;
+use program_text::say_refused;
 use rooms::answer_size;
 use rooms::block_room;
 use rooms::blocks;
@@ -87,7 +88,7 @@ fn main() {
     let mut message = message_room();
     let mut page = page_room();
     run(
-        sections::past_mark(&text[..n]),
+        past_mark(&text[..n]),
         &mut numbers,
         &mut shares,
         &mut store,

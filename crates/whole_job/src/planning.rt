@@ -1,10 +1,6 @@
 // A job from its text: its sections read, planned, and with as many numbers as it needs.
 ghost use Prim.Native.Nat.{_≤_};
 ghost use lib.ListN.{length};
-use crate::printing::say;
-use crate::printing::say_front;
-use crate::printing::say_number;
-use crate::printing::say_refused;
 use crate::rooms::ELEMENT_ROOM;
 use crate::rooms::Sizes;
 use crate::rooms::answer_size;
@@ -19,6 +15,10 @@ use lister::LISTING_ROOM;
 use plan::Job;
 use plan::Plan;
 use plan::Planned;
+use program_text::say;
+use program_text::say_front;
+use program_text::say_number;
+use program_text::say_refused;
 
 // How many numbers the section JOB has.
 const JOB_NUMBERS: usize = 11;

@@ -2,9 +2,12 @@
 ghost use mathlib.Core.Path.{_≡_};
 ghost use Prim.Native.Nat.{_≤_, _<_};
 ghost use lib.ListN.{length};
-use crate::printing::say;
-use crate::printing::say_number;
-use crate::printing::say_position;
+use program_text::front_of;
+use program_text::rest_of;
+use program_text::say;
+use program_text::say_fault;
+use program_text::say_number;
+use program_text::say_position;
 use text_numbers::ReadOutcome;
 use words::least;
 
@@ -100,19 +103,6 @@ fn say_expected(text: &[u8], section: usize, at: usize)
     say(b"\n");
 }
 
-// Prints that a number is too large, or that there is none, at an offset.
-fn say_fault(text: &[u8], at: usize) {
-    if text_numbers::is_digit_at(text, at) {
-        say(b"NUMBER TOO LARGE");
-        say_position(text, at);
-        say(b": the largest is 4294967295\n");
-        return;
-    }
-    say(b"NO NUMBER");
-    say_position(text, at);
-    say(b"\n");
-}
-
 // Prints how many numbers a section has and needs, and the line of its word.
 pub(crate) fn say_count(section: usize, has: usize, needs: usize, line: usize)
     requires { ⌜ section < 7 ⌝ }
@@ -125,24 +115,7 @@ pub(crate) fn say_count(section: usize, has: usize, needs: usize, line: usize)
     say(b"\n");
 }
 
-// ---- parts of a text and of its numbers
-
-// So many bytes from the front of the text, or all.
-fn front_of(text: &[u8], count: usize) -> &[u8] {
-    let n = least(count, text.len());
-    &text[..n]
-}
-
-// The text from an offset on; nothing past its end.
-fn rest_of(text: &[u8], at: usize) -> &[u8] {
-    let n = least(at, text.len());
-    &text[n..]
-}
-
-// The text without the UTF-8 mark.
-pub(crate) fn past_mark(text: &[u8]) -> &[u8] {
-    rest_of(text, text_numbers::mark_length(text))
-}
+// ---- offsets, and parts of the numbers
 
 // The offset that is so much further on, in a text or in its numbers.
 fn further(at: usize, more: usize) -> usize

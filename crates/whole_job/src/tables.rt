@@ -2,14 +2,14 @@
 ghost use mathlib.Core.Path.{_≡_};
 ghost use lib.ListN.{length};
 use crate::planning::Whole;
-use crate::printing::say;
-use crate::printing::say_front;
-use crate::printing::say_refused;
 use crate::rooms::area;
 use crate::sections;
 use crate::sections::numbers_of;
 use field_signed::Signed;
 use plan::Job;
+use program_text::say;
+use program_text::say_front;
+use program_text::say_refused;
 use words::least;
 
 // The bytes of a page after which it is printed.

@@ -1,10 +1,10 @@
--- `whole_job::sections::front_of` meets its contract.
+-- `program_text::front_of` meets its contract.
 use mathlib.Core.Path.{sym}
 use native.Mathlib.Omega.{arith}
 use lib.Seq.{length-take-le}
 use borrow.Author.Needs.{needs}
-use Rattle.whole_job.proofs.sections.front_of.Statement.{statement}
-use Rattle.whole_job.proofs.sections.front_of.Tie as tie
+use Rattle.program_text.proofs.front_of.Statement.{statement}
+use Rattle.program_text.proofs.front_of.Tie as tie
 
 least-requires : tie.Need-least-requires
 least-requires c κs = search needs
