@@ -13,24 +13,29 @@ fn is_usable<const Q: u32>(word: u32) -> bool {
     u64::from(word) < (1 << 32) / u64::from(Q) * u64::from(Q)
 }
 
-/// Draws masks modulo Q.
+/// Draws masks modulo Q: runs of usable words, one after another, so that the compiler can take several
+/// words at once.
 fn draw<const Q: u32>(words: &[u32], out: &mut [u32]) -> Result<usize, u32> {
     let used = count_used::<Q>(words, out.len()).ok_or(27_u32)?;
-    let usable = words[..used].iter().filter(|&&word| is_usable::<Q>(word));
-    for (mask, word) in out.iter_mut().zip(usable) {
-        *mask = word % Q;
+    let mut rest = out;
+    for run in words[..used].split(|&word| !is_usable::<Q>(word)) {
+        let (front, back) = rest.split_at_mut(run.len());
+        for (mask, word) in front.iter_mut().zip(run) {
+            *mask = word % Q;
+        }
+        rest = back;
     }
     Ok(used)
 }
 
-/// How many words it takes until so many of them are usable; none where there are fewer.
+/// How many words it takes until so many of them are usable; none where there are fewer. It takes at least
+/// as many as are wanted, and as many more as were skipped.
 fn count_used<const Q: u32>(words: &[u32], wanted: usize) -> Option<usize> {
-    let mut left = wanted;
-    for (used, &word) in words.iter().enumerate() {
-        if left == 0 {
-            return Some(used);
-        }
-        left -= usize::from(is_usable::<Q>(word));
+    let (mut used, mut left) = (0, wanted);
+    while left > 0 {
+        let next = words[used..].get(..left)?;
+        used += left;
+        left = next.iter().filter(|&&word| !is_usable::<Q>(word)).count();
     }
-    (left == 0).then_some(words.len())
+    Some(used)
 }
