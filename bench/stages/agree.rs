@@ -1,6 +1,8 @@
-//! The library and plain Rust give the same outcomes: random jobs, whole and with a fault put in.
+//! The library and plain Rust give the same outcomes: random jobs, whole and with a fault put in, and masks
+//! drawn from random words.
 
 use crate::calls::{Calls, Plain};
+use crate::drawing::lowest_skipped;
 use crate::library::Library;
 use crate::random::Random;
 use crate::work::{header, prime, run, take, Room, Shape, Work};
@@ -11,7 +13,11 @@ use plain::share::Matrix;
 const JOBS: u32 = 300;
 const FAULTS: u32 = 20;
 
-/// Runs random jobs by both, the layouts in turn, and calls with faults; stops where two outcomes differ.
+/// How many drawings are made.
+const DRAWINGS: u32 = 5000;
+
+/// Runs random jobs by both, the layouts in turn, and calls with faults; then draws masks. Stops where two
+/// outcomes differ.
 pub fn check() {
     let mut random = Random::new(1);
     for i in 0..JOBS {
@@ -23,6 +29,10 @@ pub fn check() {
             same_calls(&mut random, &work, &room);
         }
     }
+    let mut numbers: Vec<u32> = (0..DRAWINGS).map(|_| same_drawing(&mut random)).collect();
+    numbers.sort_unstable();
+    numbers.dedup();
+    assert_eq!(numbers, [0, 1, 27], "drawings have other outcomes");
 }
 
 /// A random job in a layout. Layout 3 needs at least 13 answers, more than there are hosts with 13.
@@ -157,4 +167,26 @@ fn same_calls(random: &mut Random, work: &Work, room: &Room) {
     same("decoding", &room.table, |calls, table| {
         calls.decode(job, points, room.heard, &room.store, table)
     });
+}
+
+/// Draws masks by both, from words many of which are about the limit; the number of the refusal, or 0. A
+/// refused drawing leaves the masks as they were.
+fn same_drawing(random: &mut Random) -> u32 {
+    let modulus = random.within(0, 4);
+    let lowest = lowest_skipped(modulus.clamp(1, 3));
+    let word = |random: &mut Random| match random.index(3) {
+        0 => random.word(),
+        1 => random.within(lowest - 2, u32::MAX),
+        _ => random.within(0, 2) + prime(modulus.clamp(1, 3)) - 1,
+    };
+    let words: Vec<u32> = (0..random.index(40)).map(|_| word(random)).collect();
+    let count = random.index(words.len() + 2);
+    let masks = random.words(count);
+    same("masks drawn", &masks, |calls, out| {
+        let used = calls.draw(modulus, &words, out);
+        assert!(used.is_ok() || *out == masks, "a refused drawing writes");
+        used
+    });
+    let outcome = Plain.draw(modulus, &words, &mut masks.clone());
+    outcome.err().unwrap_or(0)
 }

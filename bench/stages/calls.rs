@@ -1,7 +1,8 @@
-//! The calls of a job, by the library and in plain Rust.
+//! The calls of a job, and the drawing of masks, by the library and in plain Rust.
 
 use plain::arrival::arrive;
 use plain::decode::decode;
+use plain::masks::draw_masks;
 use plain::message::{read_message, write_message, Header};
 use plain::plan::{plan, Job};
 use plain::product::{product, product_of_bytes};
@@ -64,6 +65,8 @@ pub trait Calls {
         store: &[u32],
         table: &mut [u32],
     ) -> Outcome;
+
+    fn draw(&self, modulus: u32, words: &[u32], out: &mut [u32]) -> Result<usize, u32>;
 }
 
 /// The calls in plain Rust.
@@ -137,5 +140,9 @@ impl Calls for Plain {
         table: &mut [u32],
     ) -> Outcome {
         decode(job, points, heard, store, table)
+    }
+
+    fn draw(&self, modulus: u32, words: &[u32], out: &mut [u32]) -> Result<usize, u32> {
+        draw_masks(modulus, words, out)
     }
 }

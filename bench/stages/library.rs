@@ -52,6 +52,11 @@ extern "C" {
         numbers: Numbers, points: *const u32, points_length: usize, heard: u64,
         store: *const u32, store_length: usize, table: *mut u32, table_length: usize,
     ) -> u32;
+
+    fn stages_draw(
+        modulus: u32, words: *const u32, words_length: usize, out: *mut u32, out_length: usize,
+        used: *mut usize,
+    ) -> u32;
 }
 
 /// The numbers of a job.
@@ -235,5 +240,24 @@ impl Calls for Library {
                 table.len(),
             )
         })
+    }
+
+    fn draw(&self, modulus: u32, words: &[u32], out: &mut [u32]) -> Result<usize, u32> {
+        let mut used = usize::MAX;
+        let number = unsafe {
+            stages_draw(
+                modulus,
+                words.as_ptr(),
+                words.len(),
+                out.as_mut_ptr(),
+                out.len(),
+                &mut used,
+            )
+        };
+        assert!(
+            number == 0 || used == usize::MAX,
+            "a refused drawing tells words used"
+        );
+        outcome(number).map(|()| used)
     }
 }

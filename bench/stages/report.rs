@@ -2,6 +2,7 @@
 //! from process to process, decide nothing.
 
 use crate::cases::{every_stage, every_stage_in_layout_3, growth, Case, Row, Table};
+use crate::drawing::{self, MASKS, SKIPPED};
 use crate::race::Times;
 use crate::random::Random;
 use crate::stage::{measure, Stage};
@@ -23,15 +24,25 @@ fn all_cases() -> Vec<(Stage, Case)> {
         .collect()
 }
 
-/// Times every case and prints its times, a line a case.
+/// The modulus numbers of the masks that are drawn.
+const MODULI: [u32; 3] = [1, 2, 3];
+
+/// Times every case and every drawing and prints the times, a line each.
 pub fn print_times() {
     for (stage, case) in all_cases() {
         let mut random = Random::new(u64::from(case.modulus));
         let work = Work::new(&mut random, case.modulus, case.shape, case.block);
-        let times = measure(stage, &work.expect("the job is planned"));
-        let [library, plain] = [times.library, times.plain];
-        println!("{} {} {} {}", library[0], library[1], plain[0], plain[1]);
+        print_line_of_times(measure(stage, &work.expect("the job is planned")));
     }
+    for modulus in MODULI {
+        print_line_of_times(drawing::measure(modulus));
+    }
+}
+
+/// Prints the line that another process reads.
+fn print_line_of_times(times: Times) {
+    let [library, plain] = [times.library, times.plain];
+    println!("{} {} {} {}", library[0], library[1], plain[0], plain[1]);
 }
 
 /// The times that another process prints.
@@ -78,26 +89,45 @@ pub fn print_tables() {
     for table in growth() {
         print_growth(&table, &mut cases);
     }
+    print_drawings(&mut cases);
+}
+
+/// Prints the head of a table with a line a stage.
+fn print_head(title: &str) {
+    println!("\n{title}\n");
+    println!("| stage | q | library | plain Rust | ratio | lowest, highest | of fastest |");
+    println!("|---|---|---|---|---|---|---|");
 }
 
 /// Prints a table of stages, a line a stage.
 fn print_stages(title: &str, rows: &[Row], cases: &mut impl Iterator<Item = Runs>) {
-    println!("\n{title}\n");
-    println!("| stage | q | library | plain Rust | ratio | lowest, highest | of fastest |");
-    println!("|---|---|---|---|---|---|---|");
+    print_head(title);
     for row in rows {
-        print_line(row, &cases.next().expect("a case has its times"));
+        let runs = cases.next().expect("a case has its times");
+        print_line(row.stage.name(), row.cases[0].modulus, &runs);
     }
 }
 
-/// Prints the line of a stage of one job: the fastest times of both, the ratio of the medians with its
-/// lowest and highest, and the ratio of the fastest rounds.
-fn print_line(row: &Row, runs: &Runs) {
+/// Prints the table of the masks that are drawn.
+fn print_drawings(cases: &mut impl Iterator<Item = Runs>) {
+    let words = MASKS + SKIPPED;
+    print_head(&format!(
+        "{MASKS} masks from {words} words, {SKIPPED} of them skipped"
+    ));
+    for modulus in MODULI {
+        let runs = cases.next().expect("a drawing has its times");
+        print_line("masks drawn", modulus, &runs);
+    }
+}
+
+/// Prints the line of a stage: the fastest times of both, the ratio of the medians with its lowest and
+/// highest, and the ratio of the fastest rounds.
+fn print_line(name: &str, modulus: u32, runs: &Runs) {
     let [library, ..] = spread(runs.iter().map(|times| times.library[1]));
     let [plain, ..] = spread(runs.iter().map(|times| times.plain[1]));
     let [low, ratio, high] = spread(runs.iter().map(|t| t.library[0] / t.plain[0]));
     let [_, fastest, _] = spread(runs.iter().map(|t| t.library[1] / t.plain[1]));
-    let (name, q) = (row.stage.name(), prime(row.cases[0].modulus));
+    let q = prime(modulus);
     println!(
         "| {name} | {q} | {library:.2} | {plain:.2} | {ratio:.2} | {low:.2}, {high:.2} | {fastest:.2} |"
     );

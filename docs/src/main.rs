@@ -3,18 +3,20 @@
 //! It shares no code and no table with the proved crates. Each subject is a subcommand that
 //! checks itself, then writes its cases and what is due to them.
 //!
-//!   sheet   the sheet's calls: plans, shares, products, messages, arrivals, decodings, signed
-//!           reading, the lister's text
-//!   cases   what the makers of cases have in common
-//!   lister  the subcommand `lister`: inputs of the plan lister
-//!   calls   the subcommand `calls`: shares, products, messages and signed reading
-//!   jobs    the subcommand `jobs`: arrivals and decodings, alone and in whole jobs
-//!   texts   the subcommand `texts`: whole jobs as plain texts
+//!   sheet     the sheet's calls: plans, shares, products, messages, arrivals, decodings, signed
+//!             reading, masks, the lister's text
+//!   cases     what the makers of cases have in common
+//!   lister    the subcommand `lister`: inputs of the plan lister
+//!   calls     the subcommand `calls`: shares, products, messages, signed reading and masks
+//!   jobs      the subcommand `jobs`: arrivals and decodings, alone and in whole jobs
+//!   texts     the subcommand `texts`: whole jobs as plain texts
+//!   drawings  the subcommand `drawings`: masks to draw as plain texts
 //!
 //! The folder plain is no part of it: that is the plain Rust program of the benchmarks.
 
 mod calls;
 mod cases;
+mod drawings;
 mod jobs;
 mod lister;
 mod sheet;
@@ -29,9 +31,10 @@ fn main() {
         ["calls", stdin_file, stdout_file] => calls::write_files(stdin_file, stdout_file),
         ["jobs", stdin_file, stdout_file] => jobs::write_files(stdin_file, stdout_file),
         ["texts", folder] => texts::write_folder(folder),
+        ["drawings", folder] => drawings::write_folder(folder),
         _ => {
             eprintln!("usage: reference lister|calls|jobs STDIN_FILE STDOUT_FILE");
-            eprintln!("       reference texts FOLDER");
+            eprintln!("       reference texts|drawings FOLDER");
             std::process::exit(2);
         }
     }

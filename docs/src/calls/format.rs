@@ -3,15 +3,17 @@
 //! A case is 18 words, three lists of words, and a list of bytes:
 //!
 //!   0       the call: 1 share of A, 2 share of B, 3 product, 4 write a message, 5 read a message,
-//!           6 signed reading, 7 its way back
+//!           6 signed reading, 7 its way back, 8 draw masks
 //!   1..=12  the call's numbers, unused ones 0
 //!             share           modulus number, t, s, r, m, p, n, X_A, X_B, N, job number, host
 //!             product         modulus number, rows, inner, columns
 //!             write           kind, modulus number, host, rows, columns, job number
 //!             signed reading  modulus number, element
 //!             way back        modulus number, value: the high word and the low one
+//!             draw            modulus number
 //!   13      length of list 1: a share's points
-//!   14      length of list 2: a share's matrix, a product's a, the elements to write
+//!   14      length of list 2: a share's matrix, a product's a, the elements to write, the words to draw
+//!           masks from
 //!   15      length of list 3: a share's masks, a product's b
 //!   16      length of the list of bytes: the message to read
 //!   17      length of the output: in bytes for a message to write, else in elements
@@ -20,12 +22,13 @@
 //!
 //! An outcome is the refusal number, 0 for a call that was done; then, of a message that was read,
 //! kind, modulus number, host, rows, columns and job number, of an element that was read its signed
-//! value in two words, and of a value taken back its element; then the output after the call. Before
-//! it every byte of the output is A5 hex. Of the output the part up to the last element that is not
-//! A5A5A5A5 hex is told (for a message to write: the last byte that is not A5): a word with its
-//! length, then the elements as words, or the bytes. Signed reading and its way back have an output
-//! of length 0.
+//! value in two words, of a value taken back its element, and of masks that were drawn the number of
+//! words used; then the output after the call. Before it every byte of the output is A5 hex. Of the
+//! output the part up to the last element that is not A5A5A5A5 hex is told (for a message to write: the
+//! last byte that is not A5): a word with its length, then the elements as words, or the bytes. Signed
+//! reading and its way back have an output of length 0.
 
+use crate::sheet::masks::{draw, Drawing};
 use crate::sheet::message::{read, write, Fields, Reading, Writing};
 use crate::sheet::product::{product, Multiplying};
 use crate::sheet::share::{share, Sharing, Side};
@@ -43,6 +46,7 @@ pub enum Call {
     Read(Reading),
     Signed(SignedReading),
     Back(WayBack),
+    Draw(Drawing),
 }
 
 /// A case before it is made into bytes.
@@ -66,6 +70,7 @@ pub fn case(call: &Call) -> Vec<u8> {
             let [high, low] = signed_words(call.value);
             numbers_case(7, vec![call.modulus, high, low])
         }
+        Call::Draw(call) => draw_case(call),
     })
 }
 
@@ -109,6 +114,17 @@ fn read_case(call: &Reading) -> Case<'_> {
         numbers: Vec::new(),
         lists: [&[]; 3],
         message: &call.message,
+        room: call.room,
+    }
+}
+
+/// The case of masks to draw.
+fn draw_case(call: &Drawing) -> Case<'_> {
+    Case {
+        call: 8,
+        numbers: vec![call.modulus],
+        lists: [&[], &call.words, &[]],
+        message: &[],
         room: call.room,
     }
 }
@@ -172,6 +188,7 @@ pub fn number(call: &Call) -> u32 {
         Call::Read(call) => read(call).err(),
         Call::Signed(call) => signed_reading(call).err(),
         Call::Back(call) => way_back(call).err(),
+        Call::Draw(call) => draw(call).err(),
     };
     refused.unwrap_or(0)
 }
@@ -186,6 +203,7 @@ pub fn outcome(call: &Call) -> Vec<u8> {
         Call::Read(call) => reading_told(call),
         Call::Signed(call) => value_told(signed_reading(call).map(signed_words)),
         Call::Back(call) => value_told(way_back(call).map(|element| [element])),
+        Call::Draw(call) => drawing_told(call),
     });
     bytes
 }
@@ -196,6 +214,18 @@ fn reading_told(call: &Reading) -> Vec<u8> {
         Ok((fields, elements)) => {
             let mut bytes = words(&field_words(&fields));
             bytes.extend(elements_told(&elements, call.room));
+            bytes
+        }
+        Err(_) => elements_told(&[], call.room),
+    }
+}
+
+/// How many words a drawing used, then the output; of a refused one the output alone.
+fn drawing_told(call: &Drawing) -> Vec<u8> {
+    match draw(call) {
+        Ok(drawn) => {
+            let mut bytes = words(&[drawn.used as u32]);
+            bytes.extend(elements_told(&drawn.elements, call.room));
             bytes
         }
         Err(_) => elements_told(&[], call.room),

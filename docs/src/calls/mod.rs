@@ -1,15 +1,17 @@
-//! The subcommand `calls`: gathers the cases of shares, products, messages and signed reading, checks
-//! them, writes them with their outcomes.
+//! The subcommand `calls`: gathers the cases of shares, products, messages, signed reading and masks,
+//! checks them, writes them with their outcomes.
 //!
 //!   shares    cases of shares
 //!   products  cases of products
 //!   messages  cases of messages to write, and of fit ones to read
 //!   damage    cases of damaged messages to read
 //!   signed    cases of signed reading and of its way back
+//!   masks     cases of masks to draw
 //!   format    the file format of cases and outcomes
 
 pub mod damage;
 pub mod format;
+pub mod masks;
 pub mod messages;
 mod products;
 pub mod shares;
@@ -20,6 +22,8 @@ use std::collections::HashSet;
 use crate::cases::counts::{hold, Counts, Floors};
 use crate::cases::faults::Expected;
 use crate::cases::save;
+use crate::sheet::masks::{draw, Drawing, Drawn};
+use crate::sheet::masks_check;
 use crate::sheet::message::{read, write, Reading, Writing};
 use crate::sheet::plan_check;
 use crate::sheet::product::product;
@@ -47,11 +51,13 @@ const FLOORS: &Floors = &[
     ]),
     ("signed reading", &[(0, 577), (1, 121), (14, 145)]),
     ("way back", &[(0, 575), (1, 242), (25, 318)]),
+    ("masks", &[(0, 379), (1, 77), (27, 323)]),
 ];
 
 /// Checks the program, then writes the cases to one file and their outcomes to the other.
 pub fn write_files(stdin_file: &str, stdout_file: &str) {
     plan_check::run();
+    masks_check::run();
     hand_values();
     let calls = gathered();
     calls.iter().for_each(reads_back);
@@ -77,7 +83,7 @@ fn hand_values() {
     assert_eq!(signed_reading(&SignedReading { modulus, element }), Ok(-6));
 }
 
-/// All calls, each once. Shares have a generator of their own: no other call changes with them.
+/// All calls, each once. Shares and masks have generators of their own: no other call changes with them.
 fn gathered() -> Vec<Call> {
     let random = &mut Random::new(2027);
     let mut calls = expected(shares::expected(random), Call::Share);
@@ -90,6 +96,8 @@ fn gathered() -> Vec<Call> {
     calls.extend(damage::computed(random).into_iter().map(Call::Read));
     calls.extend(expected(signed::readings(random), Call::Signed));
     calls.extend(expected(signed::ways_back(random), Call::Back));
+    let random = &mut Random::new(2030);
+    calls.extend(expected(masks::expected(random), Call::Draw));
     let mut seen = HashSet::new();
     calls.retain(|call| seen.insert(case(call)));
     calls
@@ -107,7 +115,8 @@ fn expected<T>(list: Expected<T>, as_call: fn(T) -> Call) -> Vec<Call> {
 }
 
 /// Panics unless a message that is written reads back to its fields and elements, one that is read
-/// is written again byte for byte, and signed reading and its way back undo each other.
+/// is written again byte for byte, signed reading and its way back undo each other, and the words used
+/// give the masks that all words give.
 fn reads_back(call: &Call) {
     match call {
         Call::Write(call) => {
@@ -130,6 +139,7 @@ fn reads_back(call: &Call) {
         }
         Call::Signed(call) => signed_back(call),
         Call::Back(call) => back_signed(call),
+        Call::Draw(call) => drawn_again(call),
         Call::Share(_) | Call::Product(_) => {}
     }
 }
@@ -148,6 +158,19 @@ fn back_signed(call: &WayBack) {
         let modulus = call.modulus;
         let reading = SignedReading { modulus, element };
         assert_eq!(signed_reading(&reading), Ok(call.value));
+    }
+}
+
+/// Panics unless the words used give the same masks again, and without the last of them give too few.
+fn drawn_again(call: &Drawing) {
+    let of_first = |count: usize| {
+        let words = call.words[..count].to_vec();
+        draw(&Drawing { words, ..*call })
+    };
+    if let Ok(Drawn { elements, used }) = draw(call) {
+        assert_eq!((elements.len(), used == 0), (call.room, call.room == 0));
+        assert_eq!(of_first(used), Ok(Drawn { elements, used }));
+        assert!(used == 0 || of_first(used - 1) == Err(27));
     }
 }
 
@@ -170,5 +193,6 @@ fn name(call: &Call) -> &'static str {
         Call::Read(_) => "read",
         Call::Signed(_) => "signed reading",
         Call::Back(_) => "way back",
+        Call::Draw(_) => "masks",
     }
 }

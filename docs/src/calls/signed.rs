@@ -1,26 +1,10 @@
 //! Cases of signed reading and of its way back: the ends of each range with their neighbours, whole
 //! ranges, random ones, and refused ones.
 
-use crate::cases::faults::Expected;
+use crate::cases::faults::{Expected, NO_MODULUS};
 use crate::sheet::plan::prime;
 use crate::sheet::random::Random;
 use crate::sheet::signed::{half, SignedReading, WayBack};
-
-/// Modulus numbers that stand for no prime: neighbours of 1..3, primes of the sheet, numbers whose
-/// low byte or low half is in 1..3, and the largest.
-const NO_MODULUS: [u32; 11] = [
-    0,
-    4,
-    5,
-    13,
-    255,
-    257,
-    258,
-    65537,
-    1 << 31,
-    (1 << 31) + 1,
-    u32::MAX,
-];
 
 /// All cases of signed reading with the refusal numbers that are due.
 pub fn readings(random: &mut Random) -> Expected<SignedReading> {

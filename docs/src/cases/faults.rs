@@ -1,10 +1,26 @@
-//! Calls with faults put in, each by itself and two at once.
+//! Calls with faults put in, each by itself and two at once; numbers, lists and elements for them.
 
 /// A fault: the refusal number that it brings by itself, and what it changes in a call.
 pub type Fault<T> = (u32, fn(&mut T));
 
 /// Calls with the refusal number that each must get, 0 for one that is done.
 pub type Expected<T> = Vec<(T, u32)>;
+
+/// Modulus numbers that stand for no prime: neighbours of 1..3, primes of the sheet, numbers whose
+/// low byte or low half is in 1..3, and the largest.
+pub const NO_MODULUS: [u32; 11] = [
+    0,
+    4,
+    5,
+    13,
+    255,
+    257,
+    258,
+    65537,
+    1 << 31,
+    (1 << 31) + 1,
+    u32::MAX,
+];
 
 /// Each fault alone, and each two of unlike number together. The faults stand in the order of the
 /// sheet's tests, so the earlier one is due. It is put in after the later one, so that a list is

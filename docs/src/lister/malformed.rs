@@ -2,6 +2,7 @@
 //! a random byte damaged.
 
 use super::plans::EXAMPLE;
+use crate::cases::forms::padded;
 use crate::sheet::listing::text;
 use crate::sheet::random::Random;
 
@@ -169,13 +170,6 @@ fn after_longest() -> Vec<Vec<u8>> {
         b"\r\n",
     ];
     ends.map(|end| [bare, end].concat()).to_vec()
-}
-
-/// A line followed by copies of a byte up to a length.
-fn padded(line: &[u8], length: usize, byte: u8) -> Vec<u8> {
-    let mut input = line.to_vec();
-    input.resize(length, byte);
-    input
 }
 
 /// Lines with one byte replaced, put in or taken out at random; some stay well-formed.

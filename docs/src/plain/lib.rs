@@ -9,6 +9,7 @@
 //!   message   messages, written and read
 //!   arrival   an answer taken into the store
 //!   decode    the table from the answers
+//!   masks     masks drawn from random words
 //!   for_c     the product on bytes for a C program
 //!
 //! A refused call returns the sheet's number as an error, and leaves every buffer as it was.
@@ -17,6 +18,7 @@ pub mod arrival;
 pub mod decode;
 mod field;
 mod for_c;
+pub mod masks;
 pub mod message;
 pub mod plan;
 pub mod product;

@@ -8,6 +8,8 @@
 //!   product      a host's product
 //!   message      messages, written and read
 //!   signed       signed reading and its way back
+//!   masks        masks drawn from random words
+//!   masks_check  the drawing against values by hand and against a count of all lists of few words
 //!   job_call     calls on a job that is under way, and the tests that they make first
 //!   arrival      an answer's arrival
 //!   interpolate  interpolation, by a system of linear equations
@@ -19,6 +21,8 @@ pub mod decode;
 mod interpolate;
 pub mod job_call;
 pub mod listing;
+pub mod masks;
+pub mod masks_check;
 pub mod message;
 pub mod plan;
 pub mod plan_check;

@@ -3,6 +3,7 @@
 //!   Line        a job's numbers as the lister reads them
 //!   Job         the public numbers that the plan's tests look at
 //!   prime       the modulus q of a modulus number
+//!   moduli      the modulus numbers
 //!   refusal     the first of the numbers 1 to 11 that fits a job and its evaluation points
 //!   Layout      the exponents of blocks and masks, the places of C, the recovery threshold K
 //!   layouts     the three layouts, by number
@@ -71,6 +72,11 @@ pub fn prime(modulus: u32) -> Option<u32> {
         3 => Some(65537),
         _ => None,
     }
+}
+
+/// The modulus numbers.
+pub fn moduli() -> impl Iterator<Item = u32> {
+    (1..).take_while(|&number| prime(number).is_some())
 }
 
 /// The first refusal number that fits the plan, in the sheet's order; none if it is accepted.

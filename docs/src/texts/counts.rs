@@ -4,10 +4,12 @@
 
 use std::ops::Range;
 
-use super::job_text::{sectioned, Case, JobText, Parts};
+use super::job_text::{sectioned, JobText, Parts};
 use super::jobs::{drawn, IN_EACH_LAYOUT};
 use super::printed::{count_line, JOB_NUMBERS};
-use super::sections::{lines, WORDS};
+use super::sections::WORDS;
+use crate::cases::folder::Case;
+use crate::cases::tokens::lines;
 use crate::sheet::random::Random;
 use crate::sheet::whole_job::Contents;
 

@@ -1,14 +1,16 @@
-//! Texts of all forms for the sheet's smallest job: white space, comments, line ends, the UTF-8 mark,
-//! leading zeros and large numbers; and texts near the longest.
+//! Texts of all forms for the sheet's smallest job, with large numbers too; and texts near the longest.
 //!
 //!   parts    the numbers of that job, section by section
 //!   bare     its text in one line
 //!   forms    texts of all forms
 //!   lengths  texts as long as can be, with very many numbers too, and texts that are too long
 
-use super::job_text::{sectioned, tokens, Case, JobText, Parts, GAPS};
-use super::printed::{count_line, fault_line, JOB_NUMBERS, MARK, MOST_TEXT, TOO_LONG};
-use super::sections::{Fault, Position};
+use super::job_text::{sectioned, tokens, JobText, Parts};
+use super::printed::{count_line, JOB_NUMBERS, MOST_TEXT, TOO_LONG};
+use super::sections::expected_line;
+use crate::cases::folder::Case;
+use crate::cases::forms::{self, filled_up, padded};
+use crate::cases::tokens::{no_number, Position};
 
 /// The numbers of the sheet's smallest job, section by section.
 pub fn parts() -> Parts {
@@ -27,45 +29,8 @@ fn fit(text: Vec<u8>) -> Case {
 
 /// Texts of all forms for a job that is carried out.
 pub fn forms() -> Vec<Case> {
-    let groups = [
-        gaps(),
-        beginnings(),
-        endings(),
-        line_ends(),
-        zeros(),
-        large_numbers(),
-    ];
-    groups.concat()
-}
-
-/// The same between each two tokens: each kind of gap, and a comment with every byte but those that
-/// end a line.
-fn gaps() -> Vec<Case> {
-    let inside = (0..=255).filter(|byte| !b"\r\n".contains(byte));
-    let comment = [b"#", &inside.collect::<Vec<u8>>()[..]].concat();
-    let comments = [b"\n", b"\r"].map(|end| [&comment[..], end].concat());
-    let gaps = GAPS.into_iter().chain(comments.iter().map(Vec::as_slice));
-    gaps.map(|gap| fit(tokens(&parts()).join(gap))).collect()
-}
-
-/// Something before the first word.
-fn beginnings() -> Vec<Case> {
-    #[rustfmt::skip]
-    let begins: [&[u8]; 15] = [
-        b" ", b"\n", b"\t\t", b"\r\n", b"\r", b"#\n", b"# 1\n# 2\n\n", b"#\r\n\r\n  ", b"##\n", b"#\r",
-        b"# JOB 1\r\r", MARK, b"\xef\xbb\xbf\n", b"\xef\xbb\xbf# x\r\n", b"#\xef\xbb\xbf\n",
-    ];
-    begins.map(|begin| fit([begin, &bare()].concat())).to_vec()
-}
-
-/// Something after the last number.
-fn endings() -> Vec<Case> {
-    #[rustfmt::skip]
-    let ends: [&[u8]; 16] = [
-        b"", b"\n", b" ", b"\t", b"\r", b"\r\n", b"\n\n\n", b"#", b"# end", b"# end\n", b"\n#1 2 3",
-        b" #\r", b"\n#\n#", b"#\xff\0", b"# JOB", b"\r#x\r\n#\r",
-    ];
-    ends.map(|end| fit([&bare()[..], end].concat())).to_vec()
+    let same = forms::forms(&tokens(&parts())).into_iter().map(fit);
+    [same.collect(), line_ends(), large_numbers()].concat()
 }
 
 /// Each section in a line, with a comment after its word and one after its numbers; each kind of
@@ -97,26 +62,9 @@ fn line_ends() -> Vec<Case> {
     for (end, count) in ends {
         cases.push(fit(text(end, "")));
         let more = [&text(end, "")[..], end, b" ?"].concat();
-        let position = Position {
-            line: 14 * count + 1,
-            column: 2,
-        };
-        cases.push((more, fault_line(Fault::NoNumber, position)));
+        cases.push((more, no_number(14 * count + 1, 2)));
     }
     cases
-}
-
-/// One, twelve and two hundred leading zeros on each number.
-fn zeros() -> Vec<Case> {
-    let prefixed = |count| {
-        let tokens = tokens(&parts()).into_iter().map(|token| {
-            let is_number = token[0].is_ascii_digit();
-            let zeros = b"0".repeat(if is_number { count } else { 0 });
-            [zeros, token].concat()
-        });
-        tokens.collect::<Vec<_>>().join(&b' ')
-    };
-    [1, 12, 200].map(|count| fit(prefixed(count))).to_vec()
 }
 
 /// The largest numbers that fit, as a job number and as a host.
@@ -146,12 +94,6 @@ pub fn lengths() -> Vec<Case> {
     [longest(), too_long()].concat()
 }
 
-/// A text and copies of a byte up to a length.
-fn padded(mut text: Vec<u8>, length: usize, byte: u8) -> Vec<u8> {
-    text.resize(length, byte);
-    text
-}
-
 /// The sheet's smallest job with so many numbers in one section; one section in a line.
 fn filled(section: usize, count: usize, number: u32) -> Vec<u8> {
     let mut parts = parts();
@@ -163,38 +105,28 @@ fn filled(section: usize, count: usize, number: u32) -> Vec<u8> {
 /// mark; as many numbers as there can be in a section.
 fn longest() -> Vec<Case> {
     let length = MOST_TEXT - 1;
-    let commented = [&bare()[..], b"#"].concat();
     let many = |first: &[u32], others: u32| {
         let mut job = JobText::by_hand();
         job.order = Vec::new();
         let left = (length - job.text().len()) / 2;
         job.order = first.to_vec();
         job.order.resize(left, others);
-        (padded(job.text(), length, b'\n'), job.due())
+        (padded(&job.text(), length, b'\n'), job.due())
     };
-    let mut cases = vec![
-        fit(padded(bare(), length, b' ')),
-        fit(padded(bare(), length, b'\n')),
-        fit(padded([MARK, &bare()].concat(), length, b'\r')),
-        fit(padded(commented, length, b'9')),
-        fit([b" ".repeat(length - bare().len()), bare()].concat()),
+    let (line, column) = (1, MOST_TEXT);
+    let mut cases: Vec<Case> = filled_up(&bare(), length).into_iter().map(fit).collect();
+    cases.extend([
         many(&[3, 1, 2], 1),
         many(&[], 1),
         many(&[], 9),
         (
-            padded(b"JOB ".into(), length, b'0'),
-            fault_line(
-                Fault::NotTheWord(1),
-                Position {
-                    line: 1,
-                    column: MOST_TEXT,
-                },
-            ),
+            padded(b"JOB ", length, b'0'),
+            expected_line(1, Position { line, column }),
         ),
-    ];
+    ]);
     for (section, needs) in [(0, 11), (1, 3), (2, 1), (3, 1), (4, 1), (5, 1)] {
         let count = (length - filled(section, 0, 0).len()) / 2;
-        let text = padded(filled(section, count, 1), length, b'\n');
+        let text = padded(&filled(section, count, 1), length, b'\n');
         cases.push((text, count_line(section, count, needs, section + 1)));
     }
     assert!(cases.iter().all(|(text, _)| text.len() == length));
@@ -203,17 +135,6 @@ fn longest() -> Vec<Case> {
 
 /// Texts of 65,536 bytes and more, whatever they hold.
 fn too_long() -> Vec<Case> {
-    let texts = [
-        padded(bare(), MOST_TEXT, b'\n'),
-        padded(bare(), MOST_TEXT, b' '),
-        padded(bare(), MOST_TEXT, b'x'),
-        padded([MARK, &bare()].concat(), MOST_TEXT, b' '),
-        padded(Vec::new(), MOST_TEXT, b'x'),
-        padded(Vec::new(), MOST_TEXT, 0),
-        padded(Vec::new(), MOST_TEXT, b'#'),
-        padded(bare(), MOST_TEXT + 1, b'\n'),
-        padded(bare(), 2 * MOST_TEXT, b'\n'),
-        padded(b"#".into(), 5 * MOST_TEXT, b'1'),
-    ];
-    texts.map(|text| (text, TOO_LONG.into())).to_vec()
+    let texts = forms::too_long(&bare(), MOST_TEXT).into_iter();
+    texts.map(|text| (text, TOO_LONG.into())).collect()
 }

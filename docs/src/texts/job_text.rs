@@ -1,22 +1,19 @@
 //! A job as a text, and what must be printed for it by a shorter way: answers told from a list of
 //! the hosts heard, and the table straight from A and B, with no shares and no messages.
 //!
-//!   Case        a text and all that must be printed for it
 //!   JobText     the numbers of a text, section by section
 //!   sectioned   the text of sections with these numbers, each in a line
 //!   tokens      the words and numbers of sections with these numbers
-//!   GAPS        what may stand between two tokens
 
 use super::printed::{answer_line, heard_line, tables};
 use super::sections::WORDS;
+use crate::cases::folder::Case;
+use crate::cases::forms::strewn;
 use crate::sheet::listing::{self, refused};
 use crate::sheet::plan::{choose, prime, Job, Line};
 use crate::sheet::random::Random;
 use crate::sheet::share::Side;
 use crate::sheet::whole_job::{plain, Contents};
-
-/// A text and all that must be printed for it.
-pub type Case = (Vec<u8>, String);
 
 /// The numbers of the sections of a text.
 pub type Parts = [Vec<u32>; 7];
@@ -139,31 +136,4 @@ pub fn sectioned(parts: &Parts) -> Vec<u8> {
     };
     let text: String = WORDS.iter().zip(parts).map(line).collect();
     text.into_bytes()
-}
-
-/// What may stand between two tokens.
-#[rustfmt::skip]
-pub const GAPS: [&[u8]; 16] = [
-    b" ", b"\t", b"\n", b"\r", b"\r\n", b"   ", b"\n\n", b" \t\r\n ", b"#\n", b" # 1 2 3\n",
-    b"#x\r\n\t", b"\r#-1 A\r\r\n", b"\n# a, b; c.\n# -7\n", b"####\r",
-    b"#\0\x0b\x0c\x7f\x80\xff\n", b"# \xe2\x88\x92\xc2\xa0\n ",
-];
-
-/// Tokens with any gaps between, some numbers with leading zeros, and maybe a gap at either end.
-fn strewn(random: &mut Random, tokens: &[Vec<u8>]) -> Vec<u8> {
-    let mut text = Vec::new();
-    for (i, token) in tokens.iter().enumerate() {
-        if i > 0 || random.within(0, 1) == 0 {
-            text.extend(GAPS[random.index(GAPS.len())]);
-        }
-        let zeros = random.within(0, 40).saturating_sub(30) as usize;
-        if token[0].is_ascii_digit() {
-            text.extend(b"0".repeat(zeros));
-        }
-        text.extend(token);
-    }
-    if random.within(0, 1) == 0 {
-        text.extend(GAPS[random.index(GAPS.len())]);
-    }
-    text
 }

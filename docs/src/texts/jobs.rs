@@ -5,7 +5,8 @@
 //!   jobs            all of them
 //!   drawn           a job with random contents
 
-use super::job_text::{Case, JobText};
+use super::job_text::JobText;
+use crate::cases::folder::Case;
 use crate::jobs::faults::SMALL;
 use crate::jobs::stories::{draw_points, small_line};
 use crate::sheet::plan::{choose, prime, Job, Line};

@@ -23,12 +23,9 @@ mod sections;
 mod short;
 mod words;
 
-use std::collections::{BTreeMap, HashSet};
-
-use crate::cases::save;
+use crate::cases::folder::{self, capitals, Case};
 use crate::sheet::plan_check;
 use crate::sheet::random::Random;
-use job_text::Case;
 use printed::printed;
 
 /// The kinds of all that is printed; there must be a text for each.
@@ -55,21 +52,12 @@ const MOST_TEXTS: usize = 3000;
 pub fn write_folder(folder: &str) {
     plan_check::run();
     let cases = gathered();
-    let mut counts: BTreeMap<String, u32> = BTreeMap::new();
-    for (i, (text, due)) in cases.iter().enumerate() {
-        save(&format!("{folder}/{i:04}.in"), text);
-        save(&format!("{folder}/{i:04}.out"), due.as_bytes());
-        *counts.entry(kind(due)).or_default() += 1;
-    }
-    assert!(
-        counts.keys().eq(KINDS.iter()) && cases.len() <= MOST_TEXTS,
-        "{counts:?}"
-    );
-    report(&counts, &cases);
+    assert!(cases.len() <= MOST_TEXTS);
+    folder::write(folder, &cases, kind, &KINDS);
+    report(&cases);
 }
 
-/// All texts, each once, with all that must be printed; panics if something else is printed for one
-/// than it was made for.
+/// All texts, each once, with all that must be printed.
 fn gathered() -> Vec<Case> {
     let random = &mut Random::new(2029);
     let groups = [
@@ -84,15 +72,7 @@ fn gathered() -> Vec<Case> {
         refusals::large(),
         short::short(random),
     ];
-    let mut cases = groups.concat();
-    for (text, due) in &cases {
-        assert!(printed(text) == *due, "{}", String::from_utf8_lossy(text));
-    }
-    let changed = short::changed(random).into_iter();
-    cases.extend(changed.map(|text| (text.clone(), printed(&text))));
-    let mut seen = HashSet::new();
-    cases.retain(|(text, _)| seen.insert(text.clone()));
-    cases
+    folder::gathered(groups.concat(), short::changed(random), printed)
 }
 
 /// The kind of what is printed, by the lines that tell a refusal or the plan.
@@ -119,19 +99,12 @@ fn of_line(line: &str) -> String {
             let is_short = has.parse::<u32>().ok() < needs.parse().ok();
             format!("section {word} {}", if is_short { "short" } else { "long" })
         }
-        _ => {
-            let capital = |word: &&&str| word.chars().all(|c| c.is_ascii_uppercase() || c == ':');
-            let words: Vec<&str> = words.iter().take_while(capital).copied().collect();
-            words.join(" ").trim_end_matches(':').to_lowercase()
-        }
+        _ => capitals(line),
     }
 }
 
-/// Prints how many texts there are of each kind, and what becomes of how many answers.
-fn report(counts: &BTreeMap<String, u32>, cases: &[Case]) {
-    for (kind, count) in counts {
-        println!("{kind}: {count}");
-    }
+/// Prints what becomes of how many answers.
+fn report(cases: &[Case]) {
     for words in ["taken", "already in", "refused 12", "late"] {
         let is_such = |line: &&str| line.starts_with("host ") && line.contains(words);
         let count = |(_, due): &Case| due.lines().filter(is_such).count();
@@ -140,5 +113,4 @@ fn report(counts: &BTreeMap<String, u32>, cases: &[Case]) {
             cases.iter().map(count).sum::<usize>()
         );
     }
-    println!("texts: {}", cases.len());
 }

@@ -18,7 +18,6 @@
 //!
 //!   printed        all that is printed
 //!   TOO_LONG       the line for a text that is too long
-//!   fault_line     the line for a fault
 //!   count_line     the line for a section that has not its count
 //!   large_line     the line for a job that is too large
 //!   needs          how many numbers A, B and the masks need
@@ -26,7 +25,8 @@
 //!   heard_line     the hosts heard
 //!   tables         a table and its signed reading
 
-use super::sections::{sections, Fault, Position, Section, WORDS};
+use super::sections::{sections, Section, WORDS};
+use crate::cases::tokens::without_mark;
 use crate::sheet::arrival::{arrive, Arrived};
 use crate::sheet::decode::decode;
 use crate::sheet::job_call::{answer_length, Act, JobCall};
@@ -44,25 +44,8 @@ pub const JOB_NUMBERS: usize = 11;
 /// The most elements of blocks for all hosts.
 const MOST_ELEMENTS: usize = 32_768;
 
-/// The UTF-8 mark.
-pub const MARK: &[u8] = b"\xef\xbb\xbf";
-
 /// The line for a text that is too long.
 pub const TOO_LONG: &str = "TEXT TOO LONG: at most 65535 bytes\n";
-
-/// The line for a fault.
-pub fn fault_line(fault: Fault, position: Position) -> String {
-    let Position { line, column } = position;
-    let at = format!("at line {line}, column {column}");
-    match fault {
-        Fault::NoNumber => format!("NO NUMBER {at}\n"),
-        Fault::TooLarge => format!("NUMBER TOO LARGE {at}: the largest is {}\n", u32::MAX),
-        Fault::NotTheWord(section) => match WORDS.get(section) {
-            Some(word) => format!("EXPECTED the word {word} {at}\n"),
-            None => format!("EXPECTED the end of the text {at}\n"),
-        },
-    }
-}
 
 /// The line for a section that has not its count.
 pub fn count_line(section: usize, has: usize, needs: usize, line: usize) -> String {
@@ -80,9 +63,9 @@ pub fn printed(text: &[u8]) -> String {
     if text.len() >= MOST_TEXT {
         return TOO_LONG.into();
     }
-    match sections(text.strip_prefix(MARK).unwrap_or(text)) {
+    match sections(without_mark(text)) {
         Ok(sections) => printed_for(&sections),
-        Err((fault, position)) => fault_line(fault, position),
+        Err(line) => line,
     }
 }
 

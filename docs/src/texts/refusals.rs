@@ -4,10 +4,11 @@
 //!   borders   texts with an element or a mask about q
 //!   large     texts of jobs that are too large
 
-use super::job_text::{sectioned, Case, JobText};
+use super::job_text::{sectioned, JobText};
 use super::jobs::drawn;
 use super::printed::{count_line, large_line};
 use crate::cases::faults::{alone_and_in_pairs, Fault};
+use crate::cases::folder::Case;
 use crate::jobs::faults::{last_of, SMALL};
 use crate::sheet::listing::refused;
 use crate::sheet::plan::prime;

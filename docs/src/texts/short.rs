@@ -3,11 +3,12 @@
 //!   short    the beginnings of a text
 //!   changed  texts with a byte or a number changed, whatever becomes of them
 
-use super::job_text::{tokens, Case, JobText};
+use super::job_text::{tokens, JobText};
 use super::jobs::{drawn, IN_EACH_LAYOUT};
-use super::printed::fault_line;
-use super::sections::{Fault, Position, WORDS};
+use super::sections::{expected_line, WORDS};
 use crate::cases::draw::nudged;
+use crate::cases::folder::Case;
+use crate::cases::tokens::Position;
 use crate::jobs::stories::small_line;
 use crate::lister::malformed::damage;
 use crate::sheet::random::Random;
@@ -53,7 +54,7 @@ fn beginning(job: &JobText, kept: usize, gap: u8) -> Case {
             column: last + 1,
         },
     };
-    (text, fault_line(Fault::NotTheWord(words), position))
+    (text, expected_line(words, position))
 }
 
 /// Texts of small jobs with a byte or a number of the plan changed by chance.

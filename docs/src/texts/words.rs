@@ -3,9 +3,10 @@
 //!   words  all of them
 
 use super::forms::parts;
-use super::job_text::{tokens, Case};
-use super::printed::fault_line;
-use super::sections::{Fault, Position, WORDS};
+use super::job_text::tokens;
+use super::sections::{expected_line, WORDS};
+use crate::cases::folder::Case;
+use crate::cases::tokens::{no_number, Position};
 
 /// Texts with a fault in a word.
 pub fn words() -> Vec<Case> {
@@ -15,7 +16,7 @@ pub fn words() -> Vec<Case> {
 
 /// The line where something else than a section's word stands in a line, at its front.
 fn expected(section: usize, line: usize) -> String {
-    fault_line(Fault::NotTheWord(section), Position { line, column: 1 })
+    expected_line(section, Position { line, column: 1 })
 }
 
 /// The words and numbers of the sheet's smallest job, and the indices of the words among them.
@@ -108,7 +109,7 @@ fn missing() -> Vec<Case> {
 fn end_expected(text: Vec<u8>) -> Case {
     let line = text.split(|&byte| byte == b'\n').count();
     let position = Position { line, column: 2 };
-    (text, fault_line(Fault::NotTheWord(6), position))
+    (text, expected_line(6, position))
 }
 
 /// Each word twice: at once, after its numbers, and at the end of the text.
@@ -187,19 +188,15 @@ fn glued() -> Vec<Case> {
             tokens
         };
         cases.push((lines(&without(index)), expected(section, index + 1)));
-        let told = |line: usize, column: usize| {
-            let position = Position { line, column };
-            fault_line(Fault::NoNumber, position)
-        };
         if section > 0 {
             let column = tokens[index - 1].len() + 1;
-            cases.push((lines(&without(index - 1)), told(index, column)));
+            cases.push((lines(&without(index - 1)), no_number(index, column)));
         }
         let mut stray = tokens.clone();
         stray[index].insert(0, b'=');
         let due = match section {
             0 => expected(0, 1),
-            _ => told(index + 1, 1),
+            _ => no_number(index + 1, 1),
         };
         cases.push((lines(&stray), due));
     }
