@@ -1,75 +1,87 @@
 -- Loops over the words.
 --
---   usable-by                   a word is usable, by a limit that is q's
---   Seen                        of the first i words n are usable
---   seen-none                   no word
---   seen-usable, seen-skipped   one word more, which is usable, and which is skipped
---   seen-enough, seen-all       as many as are wanted, or all the words
+--   usable-at, skipped-at       a word up to the last that is usable, and one past it
+--   Counted                     n of the first i words are usable
+--   counted-none, counted-usable, counted-skipped, counted-all  no word, one word more, and all
+--   Searched                    the words up to `end` are looked at, and so many elements are left to fill
+--   searched-none, searched-part  no word, and as many words more as there are elements left
+--   searched-few, searched-all  too few words are left, or no element
 --   Put                         the first i words are written: the first n elements of the output are their remainders
 --   put-none, put-usable, put-skipped, put-all  the same, of writing
 --   put-room                    there is room for the remainder of a usable word
 use mathlib.Core.Path.{_≡_, refl, sym, ap, _∙_}
-use mathlib.Core.Bool.{Bool, true, false}
+use mathlib.Core.Bool.{true, false}
 use mathlib.Core.List.{List, [], _∷_, _++_, append-nil, append-assoc}
-use Prim.Native.Nat.{ℕ, zero, suc, _+_, _-_, _%_, _<_, _≤_, min}
+use Prim.Native.Nat.{ℕ, zero, suc, _+_, _-_, _%_, _<_, _≤_}
 use native.Mathlib.Numerals.{add-one}
 use native.Mathlib.Omega.{arith}
-use lib.Dec.{ltb}
-use lib.ListN.{length, getD, take, drop, set, length-set, drop-of-length-le}
-use lib.Seq.{drop-cons, take-all, take-suc-set}
+use lib.ListN.{length, getD, take, drop, set, length-set, length-drop, drop-of-length-le}
+use lib.Seq.{drop-cons, drop-drop, length-take-le, take-all, take-suc-set}
+use borrow.Author.Tests.{lt-ltb, le-ltb}
 use Rattle.masks.specs.Drawing.{limit, usable, kept, used}
-use Rattle.masks.proofs.Steps.{kept-usable, kept-skipped, used-usable, used-skipped, used-past}
+use Rattle.masks.proofs.Steps.{kept-usable, kept-skipped, kept-few, kept-part, used-part}
 
-pub usable-by : (q w : ℕ) {l : ℕ} {r t : Bool} → l ≡ limit q → r ≡ ltb w l → r ≡ t → usable q w ≡ t
-unfolding usable
-usable-by q w e f g = ap (ltb w) (sym e) ∙ sym f ∙ g
+module _ (q w : ℕ) {last : ℕ} (e : last + 1 ≡ limit q) where
+  pub usable-at : w ≤ last → usable q w ≡ true
+  unfolding usable
+  usable-at l = lt-ltb w (limit q) (omega arith)
 
--- ---- words that are looked for
+  pub skipped-at : last < w → usable q w ≡ false
+  unfolding usable
+  skipped-at l = le-ltb w (limit q) (omega arith)
 
-pub record Seen (q wanted : ℕ) (words : List ℕ) (n i : ℕ) : Type 0 where
-  pub to : used q wanted words ≡ i + used q (wanted - n) (drop i words)
-  pub has : length (kept q words) ≡ n + length (kept q (drop i words))
+-- ---- words that are counted
 
-pub seen-none : (q wanted : ℕ) (words : List ℕ) → Seen q wanted words 0 0
-seen-none q wanted words =
-    let all : wanted - 0 ≡ wanted = omega arith in
-    record { to = rw all (omega arith); has = omega arith }
+abbrev pub Counted : ℕ → List ℕ → ℕ → ℕ → Type 0
+Counted q words n i = length (kept q words) ≡ n + length (kept q (drop i words))
 
-module _ {q wanted : ℕ} {words : List ℕ} {n i : ℕ} (s : Seen q wanted words n i) where
-  -- what the search returns
-  abbrev Found : Type 0
-  Found = (i ≡ used q wanted words) × (n ≡ min wanted (length (kept q words)))
+pub counted-none : (q : ℕ) (words : List ℕ) → Counted q words 0 0
+counted-none q words = omega arith
 
-  pub seen-enough : n ≡ wanted → Found
-  unfolding used
-  seen-enough e =
-      let none : wanted - n ≡ 0 = omega arith in
-      (sym (s .to ∙ rw none (omega arith)), omega (arith, s .has))
-
-  pub seen-all : n ≤ wanted → i ≡ length words → Found
+module _ (q : ℕ) (words : List ℕ) (n i : ℕ) (c : Counted q words n i) where
+  pub counted-all : length words ≤ i → n ≡ length (kept q words)
   unfolding kept
-  seen-all most e =
-      let past : drop i words ≡ [] = drop-of-length-le words {i = i} (omega arith) in
-      (sym (s .to ∙ rw (past, used-past q (wanted - n)) (omega arith)), omega (arith, s .has, ap (λ (xs : List ℕ). length (kept q xs)) past))
+  counted-all l =
+      let past : drop i words ≡ [] = drop-of-length-le words {i = i} l in
+      sym (c ∙ rw past (omega arith))
 
-  module _ (h : i < length words) (l : n < wanted) where
+  module _ (h : i < length words) where
     rest : drop i words ≡ getD words i 0 ∷ drop (suc i) words
     rest = drop-cons words i 0 h
 
-    more : wanted - n ≡ suc (wanted - suc n)
-    more = omega arith
+    pub counted-usable : usable q (getD words i 0) ≡ true → Counted q words (n + 1) (i + 1)
+    counted-usable e = rw (add-one, add-one) (c ∙ rw (rest, kept-usable q (getD words i 0) (drop (suc i) words) e) (omega arith))
 
-    pub seen-usable : usable q (getD words i 0) ≡ true → Seen q wanted words (n + 1) (i + 1)
-    seen-usable e = rw (add-one, add-one) (record {
-      to = s .to ∙ rw (rest, more, used-usable q (getD words i 0) (drop (suc i) words) (wanted - suc n) e) (omega arith);
-      has = s .has ∙ rw (rest, kept-usable q (getD words i 0) (drop (suc i) words) e) (omega arith);
-    })
+    pub counted-skipped : usable q (getD words i 0) ≡ false → Counted q words n (i + 1)
+    counted-skipped e = rw add-one (c ∙ rw (rest, kept-skipped q (getD words i 0) (drop (suc i) words) e))
 
-    pub seen-skipped : usable q (getD words i 0) ≡ false → Seen q wanted words n (i + 1)
-    seen-skipped e = rw add-one (record {
-      to = s .to ∙ rw (rest, more, used-skipped q (getD words i 0) (drop (suc i) words) (wanted - suc n) e) (omega arith);
-      has = s .has ∙ rw (rest, kept-skipped q (getD words i 0) (drop (suc i) words) e);
-    })
+-- ---- words that are looked for
+
+pub record Searched (q wanted : ℕ) (words : List ℕ) (left end : ℕ) : Type 0 where
+  pub to : used q wanted words ≡ end + used q left (drop end words)
+  pub has : length (kept q words) + left ≡ wanted + length (kept q (drop end words))
+
+pub searched-none : (q wanted : ℕ) (words : List ℕ) → Searched q wanted words wanted 0
+searched-none q wanted words = record { to = omega arith; has = omega arith }
+
+module _ {q wanted : ℕ} {words : List ℕ} {left end : ℕ} (s : Searched q wanted words left end) where
+  pub searched-all : left ≡ 0 → (end ≡ used q wanted words) × (wanted ≤ length (kept q words))
+  unfolding used
+  searched-all e = (sym (s .to ∙ rw e (omega arith)), omega (arith, s .has))
+
+  pub searched-few : length words - end < left → length (kept q words) < wanted
+  searched-few l = omega (arith, s .has, kept-few q (drop end words), length-drop end words)
+
+  pub searched-part : end + left ≤ length words → {n : ℕ} → n ≡ length (kept q (take left (drop end words))) → Searched q wanted words (left - n) (end + left)
+  searched-part l {n} e =
+      let rest = drop end words in
+      let later : drop left rest ≡ drop (end + left) words = drop-drop left end words in
+      let size : left ≤ length rest = omega (arith, length-drop end words) in
+      let few : n ≤ left = omega (arith, e, kept-few q (take left rest), length-take-le left rest size) in
+      record {
+        to = s .to ∙ rw (used-part q left left rest (omega arith) size, ← e, later) (omega arith);
+        has = rw (← later) (omega (arith, s .has, e, few, kept-part q left rest));
+      }
 
 -- ---- words that are written
 

@@ -1,12 +1,17 @@
--- Words taken one by one.
+-- Words taken one by one, and some at once.
 --
 --   kept-usable, kept-skipped   one word more, which is usable, and which is skipped
 --   used-usable, used-skipped   the same, of how many are used
---   used-past                   where there are no words, none is used
-use mathlib.Core.Path.{_≡_, refl, ap}
+--   kept-few                    not more words are usable than there are
+--   kept-part                   the usable ones of the first m words, and of the others
+--   used-part                   m words are used, where no fewer elements are wanted, and then as many as the others are for what is left
+use mathlib.Core.Path.{_≡_, refl, ap, _∙_}
 use mathlib.Core.Bool.{Bool, true, false, cond}
 use mathlib.Core.List.{List, [], _∷_}
-use Prim.Native.Nat.{ℕ, zero, suc, _%_}
+use Prim.Native.Nat.{ℕ, zero, suc, _+_, _-_, _%_, _≤_}
+use native.Mathlib.Nat.{not-suc-le-zero}
+use native.Mathlib.Omega.{arith}
+use lib.ListN.{length, take, drop}
 use Rattle.masks.specs.Drawing.{usable, kept, used}
 
 module _ (q w : ℕ) (words : List ℕ) where
@@ -26,7 +31,42 @@ module _ (q w : ℕ) (words : List ℕ) where
   unfolding used
   used-skipped n e = ap (λ (t : Bool). suc (cond t (used q n words) (used q (suc n) words))) e
 
-pub used-past : (q n : ℕ) → used q n [] ≡ 0
-unfolding used
-used-past q zero = refl
-used-past q (suc n) = refl
+module _ (q : ℕ) where
+  pub kept-few : (words : List ℕ) → length (kept q words) ≤ length words
+  unfolding kept
+  kept-few [] = omega arith
+  kept-few (w ∷ words) = go (usable q w) refl (kept-few words)
+    where
+      go : (u : Bool) → usable q w ≡ u → length (kept q words) ≤ length words → length (kept q (w ∷ words)) ≤ suc (length words)
+      go true e l = rw (kept-usable q w words e) (omega arith)
+      go false e l = rw (kept-skipped q w words e) (omega arith)
+
+  kept-more : (w : ℕ) (words part rest : List ℕ) (u : Bool) → usable q w ≡ u → length (kept q words) ≡ length (kept q part) + length (kept q rest)
+      → length (kept q (w ∷ words)) ≡ length (kept q (w ∷ part)) + length (kept q rest)
+  kept-more w words part rest true e h = rw (kept-usable q w words e, kept-usable q w part e) (omega arith)
+  kept-more w words part rest false e h = rw (kept-skipped q w words e, kept-skipped q w part e) h
+
+  pub kept-part : (m : ℕ) (words : List ℕ) → length (kept q words) ≡ length (kept q (take m words)) + length (kept q (drop m words))
+  unfolding kept
+  kept-part zero words = omega arith
+  kept-part (suc m) [] = omega arith
+  kept-part (suc m) (w ∷ words) = kept-more w words (take m words) (drop m words) (usable q w) refl (kept-part m words)
+
+  used-more : (m n w : ℕ) (words part rest : List ℕ) (u : Bool) → usable q w ≡ u
+      → used q n words ≡ m + used q (n - length (kept q part)) rest
+      → used q (suc n) words ≡ m + used q (suc n - length (kept q part)) rest
+      → used q (suc n) (w ∷ words) ≡ suc m + used q (suc n - length (kept q (w ∷ part))) rest
+  used-more m n w words part rest true e filled skipped =
+      let less : suc n - suc (length (kept q part)) ≡ n - length (kept q part) = omega arith in
+      rw (used-usable q w words n e, kept-usable q w part e, less) (omega (arith, filled))
+  used-more m n w words part rest false e filled skipped =
+      rw (used-skipped q w words n e, kept-skipped q w part e) (omega (arith, skipped))
+
+  pub used-part : (m n : ℕ) (words : List ℕ) → m ≤ n → m ≤ length words
+      → used q n words ≡ m + used q (n - length (kept q (take m words))) (drop m words)
+  unfolding kept
+  used-part zero n words h l = let all : n - 0 ≡ n = omega arith in rw all (omega arith)
+  used-part (suc m) zero words h l = absurd (not-suc-le-zero h)
+  used-part (suc m) (suc n) [] h l = absurd (not-suc-le-zero l)
+  used-part (suc m) (suc n) (w ∷ words) h l =
+      used-more m n w words (take m words) (drop m words) (usable q w) refl (used-part m n words (omega arith) (omega arith)) (used-part m (suc n) words (omega arith) (omega arith))

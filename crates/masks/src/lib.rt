@@ -2,11 +2,14 @@
 use field::Modulus;
 use field::Named;
 ghost use mathlib.Core.Path.{_≡_};
-ghost use Prim.Native.Nat.{_%_, min};
+ghost use mathlib.Core.List.{[], _∷_};
+ghost use Prim.Native.Nat.{_+_, _%_};
 ghost use lib.Dec.{ltb};
 ghost use lib.ListN.{length};
+ghost use Rattle.refusal.specs.Chain.{first, outcome};
 ghost use Rattle.field.specs.Modulus.{prime};
-ghost use Rattle.masks.specs.Drawing.{limit as Drawing·limit, kept, used, drawOutcome, masksAfter};
+ghost use Rattle.masks.specs.declared.Drawn.the-variants.{Used, Refused};
+ghost use Rattle.masks.specs.Drawing.{limit, kept, used, drawOutcome, masksAfter};
 
 // How many words there are.
 const WORDS: u64 = 0x1_0000_0000;
@@ -17,25 +20,46 @@ pub enum Drawn {
     Refused(u32),
 }
 
-// How many words are looked at until as many are usable as are wanted, and how many of them are usable.
-struct Found {
-    words: usize,
-    usable: usize,
-}
-
-// The largest multiple of the prime that is at most 2^32: a word below it is usable.
-fn limit_of(modulus: Modulus) -> u64
-    ensures { λ r. ⌜ r ≡ Drawing·limit (prime modulus) ⌝ }
+// The largest word that is usable: the next one is the largest multiple of the prime that is at most 2^32.
+fn last_usable(modulus: Modulus) -> u32
+    ensures { λ r. ⌜ r + 1 ≡ limit (prime modulus) ⌝ }
 {
     let q = field::prime_of(modulus) as u64;
-    WORDS / q * q
+    (WORDS / q * q - 1) as u32
 }
 
-// The word is below the limit.
-fn is_usable(limit: u64, word: u32) -> bool
-    ensures { λ r. ⌜ r ≡ ltb word limit ⌝ }
+// How many of the words are usable. The loop has no early end, so that several words can be compared at once.
+fn count_usable(modulus: Modulus, words: &[u32]) -> usize
+    ensures { λ r. ⌜ r ≡ length (kept (prime modulus) (now (words .entry))) ⌝ }
 {
-    (word as u64) < limit
+    let last = last_usable(modulus);
+    let mut n = 0;
+    let mut i = 0;
+    while i < words.len() {
+        if words[i] <= last {
+            n += 1;
+        }
+        i += 1;
+    }
+    n
+}
+
+// How many words are used for so many elements: at least as many, and then as many more as were skipped among the last ones.
+fn find_words(modulus: Modulus, words: &[u32], wanted: usize) -> Drawn
+    ensures { λ r. let usable = length (kept (prime modulus) (now (words .entry))) in
+        ⌜ r ≡ outcome (first ((ltb usable wanted, 27) ∷ [])) (Used (used (prime modulus) wanted (now (words .entry)))) Refused ⌝ }
+{
+    let mut end = 0;
+    let mut left = wanted;
+    while 0 < left {
+        if words.len() - end < left {
+            return Drawn::Refused(refusal::WORDS);
+        }
+        let start = end;
+        end += left;
+        left -= count_usable(modulus, &words[start..end]);
+    }
+    Drawn::Used(end)
 }
 
 // The remainder of a word by the prime.
@@ -45,37 +69,17 @@ fn element_of(modulus: Modulus, word: u32) -> u32
     field::reduce(modulus, word as u64)
 }
 
-// Looks for as many usable words as are wanted; all words are looked at where there are fewer.
-fn find_words(modulus: Modulus, words: &[u32], wanted: usize) -> Found
-    ensures words { λ r. ⌜ r .words ≡ used (prime modulus) wanted (now (words .entry)) ⌝ }
-    ensures usable { λ r. ⌜ r .usable ≡ min wanted (length (kept (prime modulus) (now (words .entry)))) ⌝ }
-{
-    let limit = limit_of(modulus);
-    let mut usable = 0;
-    let mut i = 0;
-    while i < words.len() {
-        if usable == wanted {
-            return Found { words: i, usable };
-        }
-        if is_usable(limit, words[i]) {
-            usable += 1;
-        }
-        i += 1;
-    }
-    Found { words: i, usable }
-}
-
 // Writes the remainders of the usable words, which are as many as the output has elements.
 fn put_masks(modulus: Modulus, words: &[u32], out: &mut [u32])
     requires { ⌜ length (kept (prime modulus) (now words)) ≡ length (now out) ⌝ }
     ensures { λ _. ⌜ now (out .exit) ≡ kept (prime modulus) (now (words .entry)) ⌝ }
 {
-    let limit = limit_of(modulus);
+    let last = last_usable(modulus);
     let mut n = 0;
     let mut i = 0;
     while i < words.len() {
         let word = words[i];
-        if is_usable(limit, word) {
+        if word <= last {
             out[n] = element_of(modulus, word);
             n += 1;
         }
@@ -92,10 +96,8 @@ pub fn draw_masks(modulus: u32, words: &[u32], out: &mut [u32]) -> Drawn
         return Drawn::Refused(refusal::MODULUS);
     };
     let found = find_words(named, words, out.len());
-    if found.usable < out.len() {
-        return Drawn::Refused(refusal::WORDS);
+    if let Drawn::Used(end) = found {
+        put_masks(named, &words[..end], out);
     }
-    let used = found.words;
-    put_masks(named, &words[..used], out);
-    Drawn::Used(used)
+    found
 }
