@@ -9,17 +9,19 @@
 --   Put                         the first i words are written: the first n elements of the output are their remainders
 --   put-none, put-usable, put-skipped, put-all  the same, of writing
 --   put-room                    there is room for the remainder of a usable word
+--   put-full                    where all words are usable, the next one is
+--   put-part                    some words more at once
 use mathlib.Core.Path.{_≡_, refl, sym, ap, _∙_}
 use mathlib.Core.Bool.{true, false}
 use mathlib.Core.List.{List, [], _∷_, _++_, append-nil, append-assoc}
 use Prim.Native.Nat.{ℕ, zero, suc, _+_, _-_, _%_, _<_, _≤_}
 use native.Mathlib.Numerals.{add-one}
 use native.Mathlib.Omega.{arith}
-use lib.ListN.{length, getD, take, drop, set, length-set, length-drop, drop-of-length-le}
-use lib.Seq.{drop-cons, drop-drop, length-take-le, take-all, take-suc-set}
+use lib.ListN.{length, getD, take, drop, set, length-set, length-append, length-drop, drop-of-length-le}
+use lib.Seq.{drop-cons, drop-drop, length-take-le, take-all, take-at, take-suc-set}
 use borrow.Author.Tests.{lt-ltb, le-ltb}
 use Rattle.masks.specs.Drawing.{limit, usable, kept, used}
-use Rattle.masks.proofs.Steps.{kept-usable, kept-skipped, kept-few, kept-part, used-part}
+use Rattle.masks.proofs.Steps.{kept-usable, kept-skipped, kept-few, kept-part, kept-full, used-part}
 
 module _ (q w : ℕ) {last : ℕ} (e : last + 1 ≡ limit q) where
   pub usable-at : w ≤ last → usable q w ≡ true
@@ -80,7 +82,7 @@ module _ {q wanted : ℕ} {words : List ℕ} {left end : ℕ} (s : Searched q wa
       let few : n ≤ left = omega (arith, e, kept-few q (take left rest), length-take-le left rest size) in
       record {
         to = s .to ∙ rw (used-part q left left rest (omega arith) size, ← e, later) (omega arith);
-        has = rw (← later) (omega (arith, s .has, e, few, kept-part q left rest));
+        has = rw (← later) (omega (arith, s .has, e, few, ap length (kept-part q left rest) ∙ length-append (kept q (take left rest)) (kept q (drop left rest))));
       }
 
 -- ---- words that are written
@@ -110,6 +112,12 @@ module _ {q : ℕ} {words out : List ℕ} {n i : ℕ} (p : Put q words out n i) 
         let size : length (kept q (drop i words)) ≡ suc (length (kept q (drop (suc i) words))) = rw (next, one) in
         omega (arith, p .room)
 
+    -- where all words are usable, the next one is
+    pub put-full : n ≡ i → length words ≡ length out → usable q (getD words i 0) ≡ true
+    put-full e all =
+        let size : length (drop i words) ≡ suc (length (drop (suc i) words)) = ap length next in
+        kept-full q (getD words i 0) (drop (suc i) words) (rw (← next) (omega (arith, p .room, length-drop i words)))
+
     pub put-usable : usable q (getD words i 0) ≡ true → {x : ℕ} → x ≡ getD words i 0 % q → Put q words (set out n x) (n + 1) (i + 1)
     put-usable e {x} is =
         let rest = kept q (drop (suc i) words) in
@@ -126,4 +134,29 @@ module _ {q : ℕ} {words out : List ℕ} {n i : ℕ} (p : Put q words out n i) 
         rw add-one (record {
           room = p .room ∙ rw (next, none);
           is = p .is ∙ rw (next, none);
+        })
+
+  -- the remainders of m words more
+  module _ (m : ℕ) (h : i + m ≤ length words) {c : ℕ} (size : c ≡ length (kept q (take m (drop i words)))) where
+    abbrev now : List ℕ
+    now = kept q (take m (drop i words))
+
+    abbrev later : List ℕ
+    later = kept q (drop (i + m) words)
+
+    both : kept q (drop i words) ≡ now ++ later
+    both = kept-part q m (drop i words) ∙ ap (λ (xs : List ℕ). now ++ kept q xs) (drop-drop m i words)
+
+    pub part-room : n + c ≤ length out
+    part-room = omega (arith, p .room, size, ap length both ∙ length-append now later)
+
+    pub put-part : {part : List ℕ} → part ≡ now → Put q words (take n out ++ (part ++ drop c (drop n out))) (n + c) (i + m)
+    put-part made =
+        let tail = drop c (drop n out) in
+        let front : length (take n out) ≡ n = length-take-le n out (omega (arith, part-room)) in
+        let whole : take n out ++ (now ++ tail) ≡ (take n out ++ now) ++ tail = sym (append-assoc (take n out) now tail) in
+        let front-size : length (take n out ++ now) ≡ n + c = omega (arith, length-append (take n out) now, front, size) in
+        rw (made, whole) (record {
+          room = omega (arith, length-append (take n out ++ now) tail, front-size, length-drop c (drop n out), length-drop n out, part-room, p .room, size, ap length both ∙ length-append now later);
+          is = p .is ∙ rw (both, take-at (take n out ++ now) tail (n + c) front-size) (sym (append-assoc (take n out) now later));
         })

@@ -3,15 +3,18 @@
 --   kept-usable, kept-skipped   one word more, which is usable, and which is skipped
 --   used-usable, used-skipped   the same, of how many are used
 --   kept-few                    not more words are usable than there are
---   kept-part                   the usable ones of the first m words, and of the others
+--   kept-part                   the usable ones of the first m words, and then those of the others
+--   kept-full                   where all words are usable, the first one is
 --   used-part                   m words are used, where no fewer elements are wanted, and then as many as the others are for what is left
-use mathlib.Core.Path.{_≡_, refl, ap, _∙_}
+use mathlib.Core.Path.{_≡_, refl, sym, ap, _∙_}
 use mathlib.Core.Bool.{Bool, true, false, cond}
-use mathlib.Core.List.{List, [], _∷_}
+use mathlib.Core.Logic.{⊎-elim}
+use mathlib.Core.List.{List, [], _∷_, _++_}
 use Prim.Native.Nat.{ℕ, zero, suc, _+_, _-_, _%_, _≤_}
 use native.Mathlib.Nat.{not-suc-le-zero}
 use native.Mathlib.Omega.{arith}
 use lib.ListN.{length, take, drop}
+use Rattle.algebra.proofs.Tests.{by-test}
 use Rattle.masks.specs.Drawing.{usable, kept, used}
 
 module _ (q w : ℕ) (words : List ℕ) where
@@ -41,16 +44,24 @@ module _ (q : ℕ) where
       go true e l = rw (kept-usable q w words e) (omega arith)
       go false e l = rw (kept-skipped q w words e) (omega arith)
 
-  kept-more : (w : ℕ) (words part rest : List ℕ) (u : Bool) → usable q w ≡ u → length (kept q words) ≡ length (kept q part) + length (kept q rest)
-      → length (kept q (w ∷ words)) ≡ length (kept q (w ∷ part)) + length (kept q rest)
-  kept-more w words part rest true e h = rw (kept-usable q w words e, kept-usable q w part e) (omega arith)
+  kept-more : (w : ℕ) (words part rest : List ℕ) (u : Bool) → usable q w ≡ u → kept q words ≡ kept q part ++ kept q rest
+      → kept q (w ∷ words) ≡ kept q (w ∷ part) ++ kept q rest
+  kept-more w words part rest true e h = rw (kept-usable q w words e, kept-usable q w part e, h)
   kept-more w words part rest false e h = rw (kept-skipped q w words e, kept-skipped q w part e) h
 
-  pub kept-part : (m : ℕ) (words : List ℕ) → length (kept q words) ≡ length (kept q (take m words)) + length (kept q (drop m words))
+  pub kept-part : (m : ℕ) (words : List ℕ) → kept q words ≡ kept q (take m words) ++ kept q (drop m words)
   unfolding kept
-  kept-part zero words = omega arith
-  kept-part (suc m) [] = omega arith
+  kept-part zero words = refl
+  kept-part (suc m) [] = refl
   kept-part (suc m) (w ∷ words) = kept-more w words (take m words) (drop m words) (usable q w) refl (kept-part m words)
+
+  pub kept-full : (w : ℕ) (words : List ℕ) → length (kept q (w ∷ words)) ≡ suc (length words) → usable q w ≡ true
+  kept-full w words e = ⊎-elim (λ u. u) (λ u. absurd (never u)) (by-test (usable q w))
+    where
+      never : usable q w ≡ false → ⊥
+      never u =
+          let fewer : length (kept q words) ≡ suc (length words) = sym (ap length (kept-skipped q w words u)) ∙ e in
+          omega (arith, kept-few words)
 
   used-more : (m n w : ℕ) (words part rest : List ℕ) (u : Bool) → usable q w ≡ u
       → used q n words ≡ m + used q (n - length (kept q part)) rest

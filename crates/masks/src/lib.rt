@@ -1,6 +1,7 @@
 // Masks drawn from random words (02, U3). `specs/Drawing.antt` tells how.
 use field::Modulus;
 use field::Named;
+use words::least;
 ghost use mathlib.Core.Path.{_≡_};
 ghost use mathlib.Core.List.{[], _∷_};
 ghost use Prim.Native.Nat.{_+_, _%_};
@@ -13,6 +14,9 @@ ghost use Rattle.masks.specs.Drawing.{limit, kept, used, drawOutcome, ma
 
 // How many words there are.
 const WORDS: u64 = 0x1_0000_0000;
+
+// How many words are written at a time.
+const PART: usize = 256;
 
 // What a drawing returns: how many words were used, or the number of the refusal.
 pub enum Drawn {
@@ -69,8 +73,20 @@ fn element_of(modulus: Modulus, word: u32) -> u32
     field::reduce(modulus, word as u64)
 }
 
-// Writes the remainders of the usable words, which are as many as the output has elements.
-fn put_masks(modulus: Modulus, words: &[u32], out: &mut [u32])
+// Writes the remainders of words that are all usable, so that several can be worked out at once.
+fn put_all(modulus: Modulus, words: &[u32], out: &mut [u32])
+    requires { ⌜ (length (kept (prime modulus) (now words)) ≡ length (now out)) × (length (now words) ≡ length (now out)) ⌝ }
+    ensures { λ _. ⌜ now (out .exit) ≡ kept (prime modulus) (now (words .entry)) ⌝ }
+{
+    let mut i = 0;
+    while i < words.len() {
+        out[i] = element_of(modulus, words[i]);
+        i += 1;
+    }
+}
+
+// Writes the remainders of the usable words, one by one.
+fn put_usable(modulus: Modulus, words: &[u32], out: &mut [u32])
     requires { ⌜ length (kept (prime modulus) (now words)) ≡ length (now out) ⌝ }
     ensures { λ _. ⌜ now (out .exit) ≡ kept (prime modulus) (now (words .entry)) ⌝ }
 {
@@ -84,6 +100,34 @@ fn put_masks(modulus: Modulus, words: &[u32], out: &mut [u32])
             n += 1;
         }
         i += 1;
+    }
+}
+
+// Writes the remainders of the usable words: all at once, where none is skipped.
+fn put_part(modulus: Modulus, words: &[u32], out: &mut [u32])
+    requires { ⌜ length (kept (prime modulus) (now words)) ≡ length (now out) ⌝ }
+    ensures { λ _. ⌜ now (out .exit) ≡ kept (prime modulus) (now (words .entry)) ⌝ }
+{
+    if words.len() == out.len() {
+        put_all(modulus, words, out);
+    } else {
+        put_usable(modulus, words, out);
+    }
+}
+
+// Writes the remainders of the usable words, which are as many as the output has elements, some words at a time: few are skipped.
+fn put_masks(modulus: Modulus, words: &[u32], out: &mut [u32])
+    requires { ⌜ length (kept (prime modulus) (now words)) ≡ length (now out) ⌝ }
+    ensures { λ _. ⌜ now (out .exit) ≡ kept (prime modulus) (now (words .entry)) ⌝ }
+{
+    let mut filled = 0;
+    let mut end = 0;
+    while end < words.len() {
+        let start = end;
+        end += least(PART, words.len() - end);
+        let first = filled;
+        filled += count_usable(modulus, &words[start..end]);
+        put_part(modulus, &words[start..end], &mut out[first..filled]);
     }
 }
 
