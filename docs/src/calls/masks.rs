@@ -21,6 +21,7 @@ pub fn expected(random: &mut Random) -> Expected<Drawing> {
         over_moduli(|modulus, q| skipped_runs(random, modulus, q)),
         over_moduli(|modulus, q| mixtures(random, modulus, q)),
         no_modulus(random),
+        parts(random),
         long(random),
     ];
     groups.concat()
@@ -189,6 +190,25 @@ fn no_modulus(random: &mut Random) -> Expected<Drawing> {
             room,
         };
         cases.extend(lists.into_iter().map(|list| (call(list), 1)));
+    }
+    cases
+}
+
+/// About 256 and 512 elements, the moduli in turn, with a run of skipped words at the places where a
+/// program may go on to the next part of the words; the runs are shorter and longer than a part.
+fn parts(random: &mut Random) -> Expected<Drawing> {
+    let numbers: Vec<u32> = moduli().collect();
+    let mut cases = Vec::new();
+    for count in [255_usize, 256, 257, 512, 513] {
+        for (at, length) in [(0, 1), (254, 2), (255, 1), (256, 1), (257, 256), (count, 1)] {
+            let modulus = numbers[cases.len() % numbers.len()];
+            let q = prime(modulus).expect("a modulus number");
+            let mut words: Vec<Marked> = (0..count).map(|_| usable(random, q)).collect();
+            let run: Vec<Marked> = (0..length).map(|_| skipped(random, q)).collect();
+            let at = at.min(count);
+            words.splice(at..at, run);
+            cases.push(of(modulus, &words, count));
+        }
     }
     cases
 }

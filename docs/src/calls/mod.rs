@@ -51,7 +51,7 @@ const FLOORS: &Floors = &[
     ]),
     ("signed reading", &[(0, 577), (1, 121), (14, 145)]),
     ("way back", &[(0, 575), (1, 242), (25, 318)]),
-    ("masks", &[(0, 379), (1, 77), (27, 323)]),
+    ("masks", &[(0, 409), (1, 77), (27, 323)]),
 ];
 
 /// Checks the program, then writes the cases to one file and their outcomes to the other.
