@@ -4,13 +4,13 @@ ghost use mathlib.Core.Path.{_≡_};
 ghost use lib.ListN.{length};
 use libc::STDIN_FILENO;
 use masks::Drawn;
-use program_text::past_mark;
-use program_text::say;
-use program_text::say_fault;
-use program_text::say_front;
-use program_text::say_number;
-use program_text::say_refused;
+use program_lines::say;
+use program_lines::say_fault;
+use program_lines::say_front;
+use program_lines::say_number;
+use program_lines::say_refused;
 use text_numbers::ReadOutcome;
+use text_numbers::past_mark;
 use words::least;
 
 // A text must be shorter than this: room for the words of the largest side, as `od` writes them, and some more.

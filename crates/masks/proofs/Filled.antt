@@ -5,7 +5,6 @@
 --   filled     the statement of specs/Filled.antt
 use mathlib.Core.Path.{_≡_, refl, ap, _∙_, subst}
 use mathlib.Core.Bool.{Bool, true, false}
-use mathlib.Core.Logic.{⊎-elim}
 use mathlib.Core.List.{List, [], _∷_}
 use Prim.Native.Nat.{ℕ, zero, suc, _-_, _%_, _<_, _≤_}
 use native.Mathlib.Nat.{mod-lt, not-suc-le-zero}
@@ -13,7 +12,6 @@ use native.Mathlib.Omega.{arith}
 use lib.ListN.{length, getD, take}
 use lib.Seq.{length-take-le}
 use Rattle.algebra.specs.Lists.{AllBelow}
-use Rattle.algebra.proofs.Tests.{by-test}
 use Rattle.algebra.proofs.Lists.{below-part}
 use Rattle.masks.specs.Drawing.{usable, kept, drawn, used}
 use Rattle.masks.specs.Filled.{Filled}

@@ -18,9 +18,6 @@ use Rattle.plan.specs.Planning.{prime}
 use Rattle.masks.specs.Drawing.{limit, kept, drawn, drawTests, masksAfter}
 use Rattle.masks.proofs.Filled.{filled}
 use Rattle.masks.proofs.Uniform.{uniform}
-use Rattle.share_side.specs.declared.Matrix.{Matrix}
-use Rattle.share_side.specs.Sides.{side, maskLength}
-use Rattle.promise.specs.Demand3.{Task, Masks}
 use Rattle.promise.specs.DrawnMasks.{DrawnMasks}
 
 -- a drawing that is carried out: its modulus number is known, and enough words are usable

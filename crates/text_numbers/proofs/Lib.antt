@@ -5,3 +5,4 @@ pub mod ReadLoop
 pub mod Written
 pub mod Words
 pub mod Positions
+pub mod Parts

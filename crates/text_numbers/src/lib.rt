@@ -3,7 +3,7 @@
 ghost use mathlib.Core.Path.{_≡_};
 ghost use mathlib.Core.Bool.{true};
 ghost use Prim.Native.Nat.{_<_, _^_};
-ghost use lib.ListN.{length};
+ghost use lib.ListN.{length, take, drop};
 ghost use Rattle.text_numbers.specs.Numbers.{
   within,
   isDigit,
@@ -303,7 +303,7 @@ pub fn token_end(text: &[u8]) -> usize
 }
 
 // How many bytes of the UTF-8 mark the text begins with: 3, or 0 where it has none.
-pub fn mark_length(text: &[u8]) -> usize
+fn mark_length(text: &[u8]) -> usize
     ensures { λ r. ⌜ r ≡ markLength (now (text .entry)) ⌝ }
 {
     if byte_at(text, 0) != 0xEF {
@@ -316,6 +316,31 @@ pub fn mark_length(text: &[u8]) -> usize
         return 0;
     }
     3
+}
+
+// ---- parts of a text
+
+// So many bytes from the front of the text, or all.
+pub fn front_of(text: &[u8], count: usize) -> &[u8]
+    ensures { λ r. ⌜ now r ≡ take count (now (text .entry)) ⌝ }
+{
+    let n = least(count, text.len());
+    &text[..n]
+}
+
+// The text from an offset on; nothing past its end.
+pub fn rest_of(text: &[u8], at: usize) -> &[u8]
+    ensures { λ r. ⌜ now r ≡ drop at (now (text .entry)) ⌝ }
+{
+    let n = least(at, text.len());
+    &text[n..]
+}
+
+// The text without the UTF-8 mark.
+pub fn past_mark(text: &[u8]) -> &[u8]
+    ensures { λ r. ⌜ now r ≡ drop (markLength (now (text .entry))) (now (text .entry)) ⌝ }
+{
+    rest_of(text, mark_length(text))
 }
 
 // ---- positions

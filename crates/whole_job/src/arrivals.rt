@@ -12,9 +12,9 @@ use crate::rooms::message_size;
 use crate::sections;
 use crate::sections::numbers_of;
 use arrival::Arrived;
-use program_text::say;
-use program_text::say_front;
-use program_text::say_number;
+use program_lines::say;
+use program_lines::say_front;
+use program_lines::say_number;
 use words::least;
 
 // Prints what became of a host's answer: some words and a number.

@@ -15,9 +15,8 @@ use libc::STDIN_FILENO;
 use lister::LISTING_ROOM;
 use planning::Prepared;
 use planning::Whole;
-use program_text::past_mark;
-use program_text::say;
-use program_text::say_refused;
+use program_lines::say;
+use program_lines::say_refused;
 use rooms::answer_size;
 use rooms::block_room;
 use rooms::blocks;
@@ -27,6 +26,7 @@ use rooms::page_room;
 use rooms::pair_room;
 use rooms::share_room;
 use sections::MOST_TEXT;
+use text_numbers::past_mark;
 use words::least;
 
 // Runs the job of a text in the rooms lent: the text's numbers, the shares of all hosts, the answers that are taken, the table,

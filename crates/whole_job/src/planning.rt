@@ -15,10 +15,10 @@ use lister::LISTING_ROOM;
 use plan::Job;
 use plan::Plan;
 use plan::Planned;
-use program_text::say;
-use program_text::say_front;
-use program_text::say_number;
-use program_text::say_refused;
+use program_lines::say;
+use program_lines::say_front;
+use program_lines::say_number;
+use program_lines::say_refused;
 
 // How many numbers the section JOB has.
 const JOB_NUMBERS: usize = 11;

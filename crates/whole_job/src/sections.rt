@@ -2,13 +2,13 @@
 ghost use mathlib.Core.Path.{_≡_};
 ghost use Prim.Native.Nat.{_≤_, _<_};
 ghost use lib.ListN.{length};
-use program_text::front_of;
-use program_text::rest_of;
-use program_text::say;
-use program_text::say_fault;
-use program_text::say_number;
-use program_text::say_position;
+use program_lines::say;
+use program_lines::say_fault;
+use program_lines::say_number;
+use program_lines::say_position;
 use text_numbers::ReadOutcome;
+use text_numbers::front_of;
+use text_numbers::rest_of;
 use words::least;
 
 // The sections, in their order.

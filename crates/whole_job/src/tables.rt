@@ -7,9 +7,9 @@ use crate::sections;
 use crate::sections::numbers_of;
 use field_signed::Signed;
 use plan::Job;
-use program_text::say;
-use program_text::say_front;
-use program_text::say_refused;
+use program_lines::say;
+use program_lines::say_front;
+use program_lines::say_refused;
 use words::least;
 
 // The bytes of a page after which it is printed.

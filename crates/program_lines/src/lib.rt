@@ -1,27 +1,5 @@
-// What the programs over plain text share: parts of a text, and lines to standard output.
+// Lines to standard output, for the programs over plain text. What is printed is not proved, but compared.
 use libc::STDOUT_FILENO;
-use words::least;
-
-// ---- parts of a text
-
-// So many bytes from the front of the text, or all.
-pub fn front_of(text: &[u8], count: usize) -> &[u8] {
-    let n = least(count, text.len());
-    &text[..n]
-}
-
-// The text from an offset on; nothing past its end.
-pub fn rest_of(text: &[u8], at: usize) -> &[u8] {
-    let n = least(at, text.len());
-    &text[n..]
-}
-
-// The text without the UTF-8 mark.
-pub fn past_mark(text: &[u8]) -> &[u8] {
-    rest_of(text, text_numbers::mark_length(text))
-}
-
-// ---- lines
 
 // Prints some bytes.
 pub fn say(bytes: &[u8]) {
@@ -36,7 +14,7 @@ pub fn say_number(bytes: &[u8], n: u64) {
 
 // Prints the front of a buffer.
 pub fn say_front(out: &[u8], count: usize) {
-    say(front_of(out, count));
+    say(text_numbers::front_of(out, count));
 }
 
 // Prints the line of a refusal.
