@@ -36,7 +36,10 @@ drawn q n words = take n (kept q words)
 unfoldable pub used : ℕ → ℕ → List ℕ → ℕ
 used q zero words = 0
 used q (suc n) [] = 0
-used q (suc n) (w ∷ words) = let filled = used q n words in let skipped = used q (suc n) words in suc (cond (usable q w) filled skipped)
+used q (suc n) (w ∷ words) =
+    let filled = used q n words in
+    let skipped = used q (suc n) words in
+    suc (cond (usable q w) filled skipped)
 
 unfoldable pub drawTests : ℕ → List ℕ → ℕ → List Test
 drawTests k words n = (noModulus k, 1) ∷ (ltb (length (kept (modulus k) words)) n, 27) ∷ []

@@ -13,7 +13,7 @@ ghost use Rattle.masks.specs.declared.Drawn.the-variants.{Used, Refused}
 ghost use Rattle.masks.specs.Drawing.{limit, kept, used, drawOutcome, masksAfter};
 
 // How many words there are.
-const WORDS: u64 = 0x1_0000_0000;
+const ALL_WORDS: u64 = 0x1_0000_0000;
 
 // How many words are written at a time.
 const PART: usize = 256;
@@ -29,7 +29,7 @@ fn last_usable(modulus: Modulus) -> u32
     ensures { λ r. ⌜ r + 1 ≡ limit (prime modulus) ⌝ }
 {
     let q = field::prime_of(modulus) as u64;
-    (WORDS / q * q - 1) as u32
+    (ALL_WORDS / q * q - 1) as u32
 }
 
 // How many of the words are usable. The loop has no early end, so that several words can be compared at once.
