@@ -9,6 +9,8 @@
 --   below-anywhere            past the end of a list stands 0
 --   below-append, below-tab   small numbers after small numbers, and a tabulated list of them
 --   rest-is                   a list from some index on, up to its end
+--   take-clipped              so many elements from the front, clipped at the end
+--   rest-clipped              a list from some index on, clipped at its end
 --   below-drop, below-part    a part of a list
 --   below-none, below-step, below-more, below-all  the test, element by element
 --   below-stop                one element that is not below
@@ -20,12 +22,12 @@ use mathlib.Core.Path.{_≡_, refl, sym, ap, ap₂, _∙_}
 use mathlib.Core.Bool.{Bool, true, false, _&&_, true≢false, and-eq-true-iff, and-true, and-assoc}
 use mathlib.Core.Logic.{⊎-elim}
 use mathlib.Core.List.{List, [], _∷_, _++_, map}
-use Prim.Native.Nat.{ℕ, zero, suc, _+_, _-_, _<_, _≤_, suc-le-suc}
+use Prim.Native.Nat.{ℕ, zero, suc, _+_, _-_, _<_, _≤_, min, suc-le-suc}
 use native.Mathlib.Nat.{not-suc-le-zero, le-of-suc-le-suc, eq-or-lt-of-le, suc-ne-zero}
 use native.Mathlib.Numerals.{add-one}
 use native.Mathlib.Omega.{arith}
 use lib.Dec.{T, eqb, ltb, ltb→lt}
-use lib.ListN.{length, getD, take, drop, set, length-append, List·getD-append, List·getD-eq-default, length-take, length-drop}
+use lib.ListN.{length, getD, take, drop, set, length-append, List·getD-append, List·getD-eq-default, length-take, length-drop, drop-of-length-le}
 use lib.Seq.{getD-at, getD-take, getD-drop, take-all, take-append-le, take-suc, take-suc-set, length-take-le}
 use Rattle.algebra.specs.Lists.{tab, AllBelow, allBelow, same}
 use borrow.Author.Tests.{lt-ltb, eqb-true, eq-eqb}
@@ -98,6 +100,25 @@ below-tab q f n h i l = omega (arith, getD-tab f n i 0 (omega (arith, length-tab
 
 pub rest-is : (xs : List ℕ) (k : ℕ) → take (length xs - k) (drop k xs) ≡ drop k xs
 rest-is xs k = take-all (length xs - k) (drop k xs) (omega (arith, length-drop k xs))
+
+-- past the end of a list there is nothing to take, and nothing to drop
+module _ (xs : List ℕ) (n : ℕ) where
+  pub take-clipped : take (min n (length xs)) xs ≡ take n xs
+  take-clipped =
+      ⊎-elim
+      (λ (h : n ≤ length xs). let is : min n (length xs) ≡ n = omega arith in ap (λ (k : ℕ). take k xs) is)
+      (λ (h : length xs < n). take-all (min n (length xs)) xs (omega arith) ∙ sym (take-all n xs (omega arith)))
+      (le-or-lt n (length xs))
+
+  drop-clipped : drop (min n (length xs)) xs ≡ drop n xs
+  drop-clipped =
+      ⊎-elim
+      (λ (h : n ≤ length xs). let is : min n (length xs) ≡ n = omega arith in ap (λ (k : ℕ). drop k xs) is)
+      (λ (h : length xs < n). drop-of-length-le xs {i = min n (length xs)} (omega arith) ∙ sym (drop-of-length-le xs {i = n} (omega arith)))
+      (le-or-lt n (length xs))
+
+  pub rest-clipped : (start : ℕ) → start ≡ min n (length xs) → take (length xs - start) (drop start xs) ≡ drop n xs
+  rest-clipped start e = rest-is xs start ∙ ap (λ (k : ℕ). drop k xs) e ∙ drop-clipped
 
 pub below-drop : (q : ℕ) (xs : List ℕ) → AllBelow q xs → (k : ℕ) → AllBelow q (drop k xs)
 below-drop q xs h k i l =

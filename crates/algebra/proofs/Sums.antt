@@ -1,8 +1,8 @@
 -- Laws of finite sums.
 --
 --   sum-cong sum-≈         equal, or congruent, terms
---   sum-zero               terms that are all 0
 --   sum-flat               terms that are all the same
+--   sum-zero               terms that are all 0
 --   sum-pick               only the term at v counts
 --   sum-none               terms that are all 0 modulo q
 --   sum-bound              n terms that are each at most b
@@ -33,15 +33,13 @@ unfolding sum
 sum-≈ zero f g h = ≈-refl 0
 sum-≈ (suc n) f g h = ≈-add (sum-≈ n f g (λ i l. h i (omega arith))) (h n (lt-suc-self n))
 
-pub sum-zero : (n : ℕ) → sum n (λ i. 0) ≡ 0
-unfolding sum
-sum-zero zero = refl
-sum-zero (suc n) = ap (λ (x : ℕ). x + 0) (sum-zero n)
-
 pub sum-flat : (n x : ℕ) → sum n (λ i. x) ≡ n * x
 unfolding sum
 sum-flat zero x = omega arith
 sum-flat (suc n) x = omega (arith, sum-flat n x)
+
+pub sum-zero : (n : ℕ) → sum n (λ i. 0) ≡ 0
+sum-zero n = sum-flat n 0 ∙ mul-zero n
 
 -- none of the first n is v
 sum-miss : (n v x : ℕ) → n ≤ v → sum n (λ i. cond (eqb i v) x 0) ≡ 0

@@ -10,7 +10,7 @@
 --   put-none, put-usable, put-skipped, put-all  the same, of writing
 --   put-room                    there is room for the remainder of a usable word
 --   put-full                    where all words are usable, the next one is
---   put-part                    some words more at once
+--   part-room, put-part         some words more at once: there is room for their remainders
 use mathlib.Core.Path.{_≡_, refl, sym, ap, _∙_}
 use mathlib.Core.Bool.{true, false}
 use mathlib.Core.List.{List, [], _∷_, _++_, append-nil, append-assoc}

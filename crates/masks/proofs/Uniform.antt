@@ -5,7 +5,7 @@
 --   count-none    a test that nothing passes
 --   uniform       the statement of specs/Uniform.antt
 use mathlib.Core.Path.{_≡_, refl, sym, ap, ap₂, _∙_}
-use mathlib.Core.Bool.{Bool, true, false, cond, _&&_}
+use mathlib.Core.Bool.{Bool, true, false, cond, _&&_, and-true, and-false}
 use mathlib.Core.List.{List, [], _∷_}
 use Prim.Native.Nat.{ℕ, zero, suc, _+_, _*_, _/_, _%_, _^_, _<_}
 use native.Mathlib.Nat.{div-add-mod, div-mul-le-self, le-div-iff-mul-le, mul-comm, mul-le-mul-right, mul-mod-left, pow-zero, pow-suc, not-suc-le-zero, le-of-suc-le-suc}
@@ -51,14 +51,6 @@ count-none : (b m : ℕ) → count b m (λ ws. false) ≡ 0
 unfolding count
 count-none b zero = refl
 count-none b (suc m) = sum-cong b (λ w. count b m (λ ws. false)) (λ w. 0) (λ w l. count-none b m) ∙ sum-flat b 0 ∙ omega arith
-
-and-true : (a : Bool) → a ≡ (a && true)
-and-true true = refl
-and-true false = refl
-
-and-false : (a : Bool) → (a && false) ≡ false
-and-false true = refl
-and-false false = refl
 
 module _ (q : ℕ) (pos : 0 < q) where
   abbrev all : ℕ
@@ -145,7 +137,7 @@ module _ (q : ℕ) (pos : 0 < q) where
   one-element : (v : ℕ) → v < q → count all 1 (gives q (v ∷ [])) ≡ all / q
   unfolding number formula
   one-element v h =
-      count-cong all 1 _ (λ ws. gives q (v ∷ []) ws && true) (λ ws. and-true (gives q (v ∷ []) ws))
+      count-cong all 1 _ (λ ws. gives q (v ∷ []) ws && true) (λ ws. sym (and-true (gives q (v ∷ []) ws)))
       ∙ counted 1 (v ∷ []) (λ k. true) one
       ∙ omega arith
     where

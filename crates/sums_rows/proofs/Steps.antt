@@ -6,21 +6,18 @@
 --   rowTerm                   a weight times its row: row k begins k strides into the source
 --   one-row, all-rows         one row more, and every row
 --   plus-twice                two rows, one after the other
---   rest-clipped              a list from some offset on, clipped at its end
 --   rest-more                 what is left of the source after one more row, clipped at its end
 --   rest-short                it is no longer than the source
 use mathlib.Core.Path.{_≡_, refl, sym, ap, _∙_}
-use mathlib.Core.Logic.{⊎-elim}
 use mathlib.Core.List.{List}
 use Prim.Native.Nat.{ℕ, _+_, _*_, _%_, _^_, _-_, _<_, _≤_, min}
 use native.Mathlib.Numerals.{add-one}
 use native.Mathlib.Omega.{arith}
-use lib.ListN.{length, getD, take, drop, length-drop, drop-of-length-le}
-use lib.Seq.{getD-drop, drop-drop, drop-length, ext-getD}
+use lib.ListN.{length, getD, take, drop, length-drop}
+use lib.Seq.{getD-drop, drop-drop, ext-getD}
 use Rattle.algebra.specs.Lists.{tab, entry}
 use Rattle.algebra.specs.Sums.{sum}
-use Rattle.algebra.proofs.Orders.{le-or-lt}
-use Rattle.algebra.proofs.Lists.{length-tab, getD-tab, rest-is}
+use Rattle.algebra.proofs.Lists.{length-tab, getD-tab, rest-clipped}
 use Rattle.algebra.proofs.Grids.{tab-cong}
 use Rattle.sums_rows.specs.Contracts.{plus, combination, added}
 
@@ -79,18 +76,6 @@ plus-twice sums weight row second next =
     let n = length sums in
     tab-cong _ _ n (λ j l. ap (λ (x : ℕ). (x + second * getD next j 0) % 2 ^ 64) (sym (getD-tab f n j 0 l)))
     ∙ ap (tab (λ j. (getD (tab f n) j 0 + second * getD next j 0) % 2 ^ 64)) (sym (length-tab f n))
-
--- past the end there is nothing to drop
-drop-clipped : (xs : List ℕ) (n : ℕ) → drop (min n (length xs)) xs ≡ drop n xs
-drop-clipped xs n =
-    ⊎-elim (λ (h : n ≤ length xs). let is : min n (length xs) ≡ n = omega arith in ap (λ (k : ℕ). drop k xs) is)
-    (λ (h : length xs < n).
-    let is : min n (length xs) ≡ length xs = omega arith in
-    ap (λ (k : ℕ). drop k xs) is ∙ drop-length xs ∙ sym (drop-of-length-le xs {i = n} (omega arith)))
-    (le-or-lt n (length xs))
-
-pub rest-clipped : (xs : List ℕ) (k start : ℕ) → start ≡ min k (length xs) → take (length xs - start) (drop start xs) ≡ drop k xs
-rest-clipped xs k start e = rest-is xs start ∙ ap (λ (n : ℕ). drop n xs) e ∙ drop-clipped xs k
 
 pub rest-more : (source rest : List ℕ) (i stride step : ℕ) → rest ≡ drop (i * stride) source → step ≡ min stride (length rest)
     → take (length rest - step) (drop step rest) ≡ drop ((i + 1) * stride) source

@@ -5,4 +5,3 @@ pub mod ReadLoop
 pub mod Written
 pub mod Words
 pub mod Positions
-pub mod Parts

@@ -3,7 +3,7 @@ use Prim.Native.Nat.{_*_, _≤_}
 use native.Mathlib.Nat.{mul-le-mul}
 use native.Mathlib.Omega.{arith}
 use borrow.Author.Needs.{needs}
-use Rattle.sums_rows.proofs.Steps.{rest-clipped}
+use Rattle.algebra.proofs.Lists.{rest-clipped}
 use Rattle.decode_table.proofs.answer_at.Statement.{statement}
 use Rattle.decode_table.proofs.answer_at.Tie as tie
 

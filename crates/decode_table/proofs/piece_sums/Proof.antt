@@ -6,8 +6,7 @@ use native.Mathlib.Omega.{arith}
 use borrow.Author.Needs.{needs}
 use lib.ListN.{length, take, drop}
 use Rattle.sums.specs.Contracts.{zeros}
-use Rattle.algebra.proofs.Lists.{rest-is}
-use Rattle.sums_rows.proofs.Steps.{rest-clipped}
+use Rattle.algebra.proofs.Lists.{rest-is, rest-clipped}
 use Rattle.decode_table.specs.Contracts.{blockCount, blockLength, pieceBlock, pieceRow, answersAdded, pieceSum}
 use Rattle.decode_table.proofs.Pieces.{Located, located, block-there, piece-there, cleared-sums}
 use Rattle.decode_table.proofs.piece_sums.Statement.{statement}

@@ -1,10 +1,6 @@
 -- `text_numbers::rest_of` meets its contract.
-use mathlib.Core.Path.{ap, _∙_}
-use Prim.Native.Nat.{ℕ}
-use lib.ListN.{drop}
 use borrow.Author.Needs.{needs}
-use Rattle.algebra.proofs.Lists.{rest-is}
-use Rattle.text_numbers.proofs.Parts.{drop-least}
+use Rattle.algebra.proofs.Lists.{rest-clipped}
 use Rattle.text_numbers.proofs.rest_of.Statement.{statement}
 use Rattle.text_numbers.proofs.rest_of.Tie as tie
 
@@ -23,9 +19,7 @@ part-result-end c = search needs
 returns : tie.Need-returns
 returns c =
     let a = c .before .before .before .args in
-    rest-is (a .text .now) (c .before .least .result)
-    ∙ ap (λ (n : ℕ). drop n (a .text .now)) (c .before .least .ensures)
-    ∙ drop-least (a .at) (a .text .now)
+    rest-clipped (a .text .now) (a .at) (c .before .least .result) (c .before .least .ensures)
 
 pub rest-of-spec : {M : Type 1} → statement M
 rest-of-spec =
