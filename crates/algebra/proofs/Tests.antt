@@ -3,6 +3,7 @@
 --   by-test                   a test is true or false
 --   tests-alike               two tests that imply each other
 --   and-left, and-right       the parts of a conjunction that passed
+--   either                    which part of a disjunction passed
 --   both                      a conjunction from its parts
 --   or-left, or-right         the parts of a disjunction that failed
 --   or-all                    the three parts of one
@@ -35,6 +36,10 @@ and-left false b t = t
 pub and-right : (a b : Bool) → T (a && b) → T b
 and-right true b t = t
 and-right false b t = absurd t
+
+pub either : (a b : Bool) → T (a || b) → T a ⊎ T b
+either true b t = inl tt
+either false b t = inr t
 
 pub both : (a b : Bool) → T a → T b → T (a && b)
 both true b s t = t

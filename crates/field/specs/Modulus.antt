@@ -1,4 +1,4 @@
--- The moduli (01, "The job").
+-- The moduli (01, "The job"; 02, U4).
 --
 --   moduli      == the primes, by modulus number from 1 on
 --   modulus n   == the prime q of modulus number n, and 0 where n is no modulus number
@@ -14,12 +14,12 @@ use Prim.Native.Nat.{ℕ}
 use lib.ListN.{length, getD}
 use Rattle.refusal.specs.Chain.{Told, done, refused, outside}
 use Rattle.field.specs.declared.Modulus.{Modulus}
-use Rattle.field.specs.declared.Modulus.the-variants.{Q13, Q257, Q65537}
+use Rattle.field.specs.declared.Modulus.the-variants.{Q13, Q257, Q65537, Q2147483647}
 use Rattle.field.specs.declared.Named.{Named}
 use Rattle.field.specs.declared.Named.the-variants.{Is, Unknown}
 
 unfoldable pub moduli : List ℕ
-moduli = 13 ∷ 257 ∷ 65537 ∷ []
+moduli = 13 ∷ 257 ∷ 65537 ∷ 2147483647 ∷ []
 
 unfoldable pub modulus : ℕ → ℕ
 modulus n = getD (0 ∷ moduli) n 0
@@ -31,14 +31,16 @@ abbrev pub prime : Modulus → ℕ
 prime Q13 = 13
 prime Q257 = 257
 prime Q65537 = 65537
+prime Q2147483647 = 2147483647
 
 abbrev pub number : Modulus → ℕ
 number Q13 = 1
 number Q257 = 2
 number Q65537 = 3
+number Q2147483647 = 4
 
 unfoldable pub named : ℕ → Named
-named n = getD (Unknown ∷ Is Q13 ∷ Is Q257 ∷ Is Q65537 ∷ []) n Unknown
+named n = getD (Unknown ∷ Is Q13 ∷ Is Q257 ∷ Is Q65537 ∷ Is Q2147483647 ∷ []) n Unknown
 
 abbrev pub modulusIn : Named → Modulus
 modulusIn (Is m) = m

@@ -4,11 +4,12 @@ ghost use Prim.Native.Nat.{_*_, _^_, _%_};
 ghost use Rattle.algebra.specs.Lists.{allBelow};
 ghost use Rattle.field.specs.Modulus.{prime, named};
 
-// The moduli of 01: each is the prime in its name.
+// The moduli of 01 and 02: each is the prime in its name.
 pub enum Modulus {
     Q13,
     Q257,
     Q65537,
+    Q2147483647,
 }
 
 // What a modulus number stands for.
@@ -17,7 +18,7 @@ pub enum Named {
     Unknown,
 }
 
-// The modulus of a modulus number: 1, 2, 3.
+// The modulus of a modulus number: 1, 2, 3, 4.
 pub fn modulus_named(number: u32) -> Named
     ensures { λ r. ⌜ r ≡ named number ⌝ }
 {
@@ -25,7 +26,8 @@ pub fn modulus_named(number: u32) -> Named
         1 => Named::Is(Modulus::Q13),
         2 => Named::Is(Modulus::Q257),
         3 => Named::Is(Modulus::Q65537),
-        0 | 4..=0xFFFF_FFFF => Named::Unknown,
+        4 => Named::Is(Modulus::Q2147483647),
+        0 | 5..=0xFFFF_FFFF => Named::Unknown,
     }
 }
 
@@ -37,6 +39,7 @@ pub fn prime_of(modulus: Modulus) -> u32
         Modulus::Q13 => 13,
         Modulus::Q257 => 257,
         Modulus::Q65537 => 65537,
+        Modulus::Q2147483647 => 2147483647,
     }
 }
 
@@ -62,6 +65,7 @@ pub fn reduce(modulus: Modulus, n: u64) -> u32
         Modulus::Q13 => (n % 13) as u32,
         Modulus::Q257 => (n % 257) as u32,
         Modulus::Q65537 => (n % 65537) as u32,
+        Modulus::Q2147483647 => (n % 2147483647) as u32,
     }
 }
 

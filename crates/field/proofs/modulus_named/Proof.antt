@@ -25,8 +25,12 @@ unfolding named
 returns-4 c = sym (ap named (c .match .keys4))
 
 returns-5 : tie.Need-returns-5
+unfolding named
+returns-5 c = sym (ap named (c .match .keys5))
+
+returns-6 : tie.Need-returns-6
 unfolding noModulus moduli
-returns-5 c = let n = c .before .args .number in sym (not-named n (over 1 (length moduli) n (omega arith) (omega arith)))
+returns-6 c = let n = c .before .args .number in sym (not-named n (over 1 (length moduli) n (omega arith) (omega arith)))
 
 pub modulus-named-spec : {M : Type 1} → statement M
-modulus-named-spec = tie.close (tie.spec returns returns-2 returns-3 returns-4 returns-5)
+modulus-named-spec = tie.close (tie.spec returns returns-2 returns-3 returns-4 returns-5 returns-6)
