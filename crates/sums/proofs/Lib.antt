@@ -1,2 +1,4 @@
 -- Laws of rows of sums.
+pub mod Steps
+pub mod Exact
 pub mod Reduced

@@ -4,8 +4,9 @@ use Prim.Native.Nat.{ℕ, _+_, _-_, _*_, _≤_}
 use native.Mathlib.Omega.{arith}
 use borrow.Author.Needs.{needs}
 use lib.ListN.{length, getD, take, drop}
+use Rattle.sums.proofs.Steps.{sumsTo, length-sums, sums-none, rest-more, rest-short}
 use Rattle.sums_rows.specs.Contracts.{plus}
-use Rattle.sums_rows.proofs.Steps.{sumsTo, length-sums, sums-none, rowTerm, one-row, all-rows, rest-more, rest-short}
+use Rattle.sums_rows.proofs.Steps.{rowTerm, one-row, all-rows}
 use Rattle.sums_rows.proofs.add_rows.Statement.{statement}
 use Rattle.sums_rows.proofs.add_rows.Tie as tie
 

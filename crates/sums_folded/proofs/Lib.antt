@@ -1,0 +1,3 @@
+-- Laws of pairs of products and of the loops that add them.
+pub mod Pairs
+pub mod Steps

@@ -1,0 +1,2 @@
+-- Sums of products, two at a time.
+pub mod Contracts
