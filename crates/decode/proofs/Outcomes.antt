@@ -41,7 +41,7 @@ use Rattle.arrival_heard.proofs.Bits.{ones-size, lowest-within}
 use Rattle.arrival.specs.Arriving.{answerLength, storeLength, blockAt}
 use Rattle.decode_table.specs.declared.Shape.{Shape}
 use Rattle.decode_table.specs.Contracts.{blockCount, blockLength, pieceCount, pieceRow, pieceSum, piecesOf, sizesTest, misfit, Sized}
-use Rattle.decode_table.proofs.Pieces.{piece-fits}
+use Rattle.decode_table.proofs.Pieces.{piece-exact}
 use Rattle.decode_table.proofs.Fits.{table-made}
 use Rattle.decode.specs.Decoding.{answerEntry, chosen, tableEntry, tableOf, tableLength, heardBelow, tableTests, decodeTests, tableAfter}
 use Rattle.decode.specs.Contracts.{Limited, shape, placeOf, decodingWeights, weightedTable, Roomy}
@@ -188,14 +188,14 @@ module _ (job : Job) (points : List ℕ) (heard : ℕ) (store : List ℕ) (room 
       omega (arith, is, same-prime, below-anywhere (prime job) (blockAt size store h) (omega (arith, f .fits .known .is-prime .above-one)) own i)
 
   entry-is : (w v : ℕ) → w < pieceCount s → v < s .«block_columns»
-      → pieceSum s hosts ws store w v % 2 ^ 64 % q
+      → pieceSum q s hosts ws store w v % 2 ^ 64 % q
       ≡ tableEntry job points heard store (w / s .«grid_columns» / s .«block_rows») (w % s .«grid_columns») (w / s .«grid_columns» % s .«block_rows») v
   unfolding tableEntry answerEntry pieceRow shape planOf
   entry-is w v hw hv =
       let c = chosen-are in
       let pos : 0 < q = omega (arith, same-prime, f .fits .known .is-prime .above-one) in
       let place = placeOf (planOf job) (w / s .«grid_columns» / s .«block_rows») (w % s .«grid_columns») in
-      ap (λ (x : ℕ). x % q) (piece-fits (planOf job .modulus) s hosts ws store sized (weights-below (planOf job) xs pos) below-at w v hw hv)
+      piece-exact (planOf job .modulus) s hosts ws store sized (weights-below (planOf job) xs pos) below-at w v hw hv
       ∙ piece-is (planOf job) points hosts store sized (subst (λ (k : ℕ). AllBelow k xs) (sym same-prime) (c .below)) (c .distinct) w v hw
       ∙ ap (λ (k : ℕ). coefficient k xs (map (λ h. answerEntry job store h (w / s .«grid_columns» % s .«block_rows») v) hosts) place) same-prime
 

@@ -26,7 +26,7 @@ use Rattle.field.specs.Modulus.{prime}
 use Rattle.plan.specs.declared.Plan.{Plan}
 use Rattle.decode_basis.proofs.Weights.{basis-by-division}
 use Rattle.decode_table.specs.declared.Shape.{Shape}
-use Rattle.decode_table.specs.Contracts.{blockCount, blockLength, pieceCount, pieceBlock, pieceRow, answerTerms, pieceSum, Sized}
+use Rattle.decode_table.specs.Contracts.{blockCount, blockLength, pieceCount, pieceBlock, pieceRow, answerTerm, pieceTerm, Sized}
 use Rattle.decode_table.proofs.Pieces.{Located, located}
 use Rattle.decode.specs.Decoding.{blocks}
 use Rattle.decode.specs.Contracts.{shape, placeOf, hostWeight, decodingWeights}
@@ -127,11 +127,11 @@ module _ (plan : Plan) (points indices store : List ℕ) (sized : Sized (shape p
         ∙ sym (getD-map (answer i v) indices c hc)
 
   pub piece-is : (w v : ℕ) → w < pieceCount (shape plan)
-      → pieceSum (shape plan) indices (decodingWeights plan (pointsAt points indices)) store w v % prime (plan .modulus)
+      → sum (length indices) (pieceTerm (shape plan) indices (decodingWeights plan (pointsAt points indices)) store w v) % prime (plan .modulus)
       ≡ coefficient (prime (plan .modulus)) (pointsAt points indices)
       (map (λ h. entry (shape plan .«block_columns») store (h * shape plan .«block_rows» + pieceRow (shape plan) w) v) indices)
       (placeOf plan (w / shape plan .«grid_columns» / shape plan .«block_rows») (w % shape plan .«grid_columns»))
-  unfolding pieceSum answerTerms coefficient xs answer pieceAt
+  unfolding pieceTerm answerTerm coefficient xs answer pieceAt
   piece-is w v h =
       let ys : List ℕ = map (answer (pieceRow s w) v) indices in
       let long = length-map indices (λ h. getD points h 0) in

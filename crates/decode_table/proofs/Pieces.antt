@@ -4,26 +4,25 @@
 --   located          so is each piece
 --   few-pieces       how many rows and pieces a table has at most
 --   block-there, piece-there   the weights of a piece are there
---   cleared-sums     sums that were cleared, with all the terms
---   piece-fits       a piece's sum stays below 2 ^ 64, where the weights and the answers are below a prime of ours
+--   piece-exact      a piece's sum of 64 bits is the sum modulo the prime, where the weights and the answers are below it
 use mathlib.Core.Path.{_≡_, ap, _∙_}
 use mathlib.Core.List.{List}
 use Prim.Native.Nat.{ℕ, _+_, _-_, _*_, _/_, _%_, _^_, _<_, _≤_}
-use native.Mathlib.Nat.{mul-le-mul, mul-le-mul-right, mod-lt, div-lt-iff-lt-mul, le-of-lt}
+use native.Mathlib.Nat.{mul-le-mul, mul-le-mul-right, mod-lt, div-lt-iff-lt-mul}
 use native.Mathlib.Omega.{arith}
 use lib.ListN.{length, getD, drop, length-drop}
 use lib.Seq.{getD-drop}
-use Rattle.algebra.specs.Lists.{tab, entry, AllBelow}
+use Rattle.algebra.specs.Lists.{entry, AllBelow}
+use Rattle.algebra.specs.Sums.{sum}
 use Rattle.algebra.proofs.Orders.{row-end}
-use Rattle.algebra.proofs.Lists.{length-tab, getD-tab, below-anywhere, below-drop}
-use Rattle.algebra.proofs.Grids.{tab-cong}
-use Rattle.algebra.proofs.Sums.{sum-bound}
+use Rattle.algebra.proofs.Lists.{below-anywhere, below-drop}
 use Rattle.field.specs.declared.Modulus.{Modulus}
 use Rattle.field.specs.Modulus.{prime}
-use Rattle.field.proofs.Moduli.{prime-prime, sums-fit}
-use Rattle.sums.specs.Contracts.{zeros}
+use Rattle.field.proofs.Moduli.{prime-prime}
+use Rattle.sums_modular.specs.Contracts.{total}
+use Rattle.sums_modular.proofs.Exact.{foldable, total-≈, total-fits, product-small}
 use Rattle.decode_table.specs.declared.Shape.{Shape}
-use Rattle.decode_table.specs.Contracts.{blockCount, blockLength, pieceCount, pieceBlock, pieceRow, answerTerms, pieceSum, Sized, Weighted, There}
+use Rattle.decode_table.specs.Contracts.{blockCount, blockLength, pieceCount, pieceBlock, pieceRow, answerTerm, pieceTerm, pieceSum, Sized, Weighted, There}
 
 -- ---- where it lies
 
@@ -76,17 +75,7 @@ module _ {s : Shape} {indices ws : List ℕ} (given : Weighted s indices ws) (w 
     short = at .size;
   }
 
-pub cleared-sums : (f : ℕ → ℕ) (sums : List ℕ) → tab (λ v. (getD (zeros sums) v 0 + f v) % 2 ^ 64) (length (zeros sums)) ≡ tab (λ v. f v % 2 ^ 64) (length sums)
-unfolding zeros
-cleared-sums f sums =
-    let n = length sums in
-    ap (tab (λ v. (getD (zeros sums) v 0 + f v) % 2 ^ 64)) (length-tab (λ (v : ℕ). 0) n)
-    ∙ tab-cong _ (λ v. f v % 2 ^ 64) n (λ v l.
-    let zero : getD (zeros sums) v 0 ≡ 0 = getD-tab (λ (k : ℕ). 0) n v 0 l in
-    let same : (getD (zeros sums) v 0 + f v) % 2 ^ 64 ≡ f v % 2 ^ 64 = omega arith in
-    same)
-
--- ---- a sum that stays below 2 ^ 64
+-- ---- its sum, where nothing is lost
 
 module _ (m : Modulus) (s : Shape) (indices ws store : List ℕ) (sized : Sized s (length indices)) (weights : AllBelow (prime m) ws)
     (answers : (c i : ℕ) → c < length indices → i < blockLength s → entry (blockLength s) store (getD indices c 0) i < prime m)
@@ -102,14 +91,19 @@ module _ (m : Modulus) (s : Shape) (indices ws store : List ℕ) (sized : Sized 
       = getD-drop from store (size + v) 0 ∙ ap (λ (k : ℕ). getD store k 0) same in
       omega (arith, is, answers c (from + v) l (omega (arith, located s (length indices) w sized hw .row)))
 
-  pub piece-fits : pieceSum s indices ws store w v % 2 ^ 64 ≡ pieceSum s indices ws store w v
-  unfolding pieceSum answerTerms
-  piece-fits =
-      let q = prime m in
-      let pos : 0 < q = omega (arith, prime-prime m .above-one) in
-      let bound : pieceSum s indices ws store w v ≤ length indices * (q * q)
-      = sum-bound (length indices) (q * q) _ (λ c l.
-      mul-le-mul (le-of-lt (below-anywhere q (drop (pieceBlock s w) ws) pos (below-drop q ws weights (pieceBlock s w)) (c * blockCount s)))
-      (le-of-lt (answer-below c l))) in
-      let few = mul-le-mul-right (q * q) (sized .few) in
-      omega (arith, sums-fit m)
+  term-small : (c : ℕ) → c < length indices → pieceTerm s indices ws store w v c ≤ prime m * prime m
+  unfolding pieceTerm answerTerm
+  term-small c l =
+      let pos : 0 < prime m = omega (arith, prime-prime m .above-one) in
+      product-small (prime m) _ _
+      (below-anywhere (prime m) (drop (pieceBlock s w) ws) pos (below-drop (prime m) ws weights (pieceBlock s w)) (c * blockCount s))
+      (answer-below c l)
+
+  pub piece-exact : pieceSum (prime m) s indices ws store w v % 2 ^ 64 % prime m ≡ sum (length indices) (pieceTerm s indices ws store w v) % prime m
+  unfolding pieceSum
+  piece-exact =
+      let n = length indices in
+      let f = pieceTerm s indices ws store w v in
+      let fits = total-fits (foldable m) n f term-small (sized .few) in
+      let whole : total (prime m) n f % 2 ^ 64 ≡ total (prime m) n f = omega arith in
+      ap (λ (x : ℕ). x % prime m) whole ∙ total-≈ (foldable m) n f term-small .same

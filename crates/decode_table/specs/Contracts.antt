@@ -7,10 +7,11 @@
 --
 --   blockCount, blockLength, pieceCount == how many blocks the table has, elements a block, and pieces the table
 --   pieceBlock, pieceRow s w      == the block in which a piece lies, and its row in it
---   answerTerms weights step indices source size v == the sum at v of the answers at these indices, each times its weight: the
---                                    weights lie a step apart, the answers a size
---   answersAdded sums weights step indices source size == each sum, plus that at its own v, in 64 bits
---   pieceSum s indices weights store w v == the sum at v of piece w
+--   answerTerm weights step indices source size v c == element v of the answer of index number c, times its weight: the weights
+--                                    lie a step apart, the answers a size
+--   answersAdded q sums weights step indices source size == each sum, plus the total of these at its own v, in 64 bits
+--   pieceTerm s indices weights store w v c == the same at v of piece w
+--   pieceSum q s indices weights store w v == their total
 --   piecesOf q s indices weights store == the table, piece by piece: the sums, of 64 bits, modulo q
 --   sizesTest s count             == a size of the table, or the number of indices, is not 1 to 4096
 --   misfit s count weights sums room == that, or there is not a weight for each index and block, a sum for each column, and
@@ -25,9 +26,9 @@ use mathlib.Core.List.{List}
 use Prim.Native.Nat.{ℕ, _+_, _*_, _/_, _%_, _^_, _<_, _≤_}
 use lib.ListN.{length, getD, drop}
 use Rattle.algebra.specs.Lists.{tab, grid, entry}
-use Rattle.algebra.specs.Sums.{sum}
 use Rattle.refusal.specs.Chain.{outside, differs}
 use Rattle.refusal.specs.Limits.{mostElements}
+use Rattle.sums_modular.specs.Contracts.{total}
 use Rattle.decode_table.specs.declared.Shape.{Shape}
 
 unfoldable pub blockCount : Shape → ℕ
@@ -47,22 +48,24 @@ pieceBlock s w = w / s .«grid_columns» / s .«block_rows» * s .«grid_columns
 unfoldable pub pieceRow : Shape → ℕ → ℕ
 pieceRow s w = w / s .«grid_columns» % s .«block_rows»
 
-unfoldable pub answerTerms : List ℕ → ℕ → List ℕ → List ℕ → ℕ → ℕ → ℕ
-answerTerms weights step indices source size v =
-    sum (length indices) (λ c. getD weights (c * step) 0 * entry size source (getD indices c 0) v)
+unfoldable pub answerTerm : List ℕ → ℕ → List ℕ → List ℕ → ℕ → ℕ → ℕ → ℕ
+answerTerm weights step indices source size v c = getD weights (c * step) 0 * entry size source (getD indices c 0) v
 
-unfoldable pub answersAdded : List ℕ → List ℕ → ℕ → List ℕ → List ℕ → ℕ → List ℕ
-answersAdded sums weights step indices source size =
-    tab (λ v. (getD sums v 0 + answerTerms weights step indices source size v) % 2 ^ 64) (length sums)
+unfoldable pub answersAdded : ℕ → List ℕ → List ℕ → ℕ → List ℕ → List ℕ → ℕ → List ℕ
+answersAdded q sums weights step indices source size =
+    tab (λ v. (getD sums v 0 + total q (length indices) (answerTerm weights step indices source size v)) % 2 ^ 64) (length sums)
 
-unfoldable pub pieceSum : Shape → List ℕ → List ℕ → List ℕ → ℕ → ℕ → ℕ
-pieceSum s indices weights store w v =
+unfoldable pub pieceTerm : Shape → List ℕ → List ℕ → List ℕ → ℕ → ℕ → ℕ → ℕ
+pieceTerm s indices weights store w v =
     let own = drop (pieceBlock s w) weights in
     let rows = drop (pieceRow s w * s .«block_columns») store in
-    answerTerms own (blockCount s) indices rows (blockLength s) v
+    answerTerm own (blockCount s) indices rows (blockLength s) v
+
+unfoldable pub pieceSum : ℕ → Shape → List ℕ → List ℕ → List ℕ → ℕ → ℕ → ℕ
+pieceSum q s indices weights store w v = total q (length indices) (pieceTerm s indices weights store w v)
 
 unfoldable pub piecesOf : ℕ → Shape → List ℕ → List ℕ → List ℕ → List ℕ
-piecesOf q s indices weights store = grid (λ w v. pieceSum s indices weights store w v % 2 ^ 64 % q) (pieceCount s) (s .«block_columns»)
+piecesOf q s indices weights store = grid (λ w v. pieceSum q s indices weights store w v % 2 ^ 64 % q) (pieceCount s) (s .«block_columns»)
 
 -- ---- what does not fit
 

@@ -60,6 +60,7 @@ fn answer_at(source: &[u32], index: u32, size: usize) -> &[u32]
 // Adds to the sums the rows of the answers of some indices, each times its weight, two at a time. The weights lie a step apart,
 // the answers a size.
 fn add_answers(
+    modulus: Modulus,
     sums: &mut [u64],
     weights: &[u32],
     step: usize,
@@ -68,28 +69,32 @@ fn add_answers(
     size: usize,
 )
     requires { ⌜ There (now weights) step (now indices) size ⌝ }
-    ensures { λ _. let given = now (sums .entry) in
-        ⌜ now (sums .exit) ≡ answersAdded given (now (weights .entry)) step (now (indices .entry)) (now (source .entry)) size ⌝ }
+    ensures { λ _. let given = now (sums .entry) in let ws = now (weights .entry) in
+        ⌜ now (sums .exit) ≡ answersAdded (prime modulus) given ws step (now (indices .entry)) (now (source .entry)) size ⌝ }
 {
+    let pairs = indices.len() / 2;
     let mut c = 0;
-    while c < indices.len() {
-        let weight = weights[c * step];
-        let answer = answer_at(source, indices[c], size);
-        if indices.len() - c < 2 {
-            sums_rows::add_row(sums, weight, answer);
-            c += 1;
-        } else {
-            let second = weights[c * step + step];
-            let next = answer_at(source, indices[c + 1], size);
-            sums_rows::add_pair(sums, weight, answer, second, next);
-            c += 2;
-        }
+    while c < pairs {
+        let i = c * 2;
+        let weight = weights[i * step];
+        let answer = answer_at(source, indices[i], size);
+        let second = weights[(i + 1) * step];
+        let next = answer_at(source, indices[i + 1], size);
+        sums_modular::add_pair(modulus, sums, weight, answer, second, next);
+        c += 1;
+    }
+    let last = pairs * 2;
+    if last < indices.len() {
+        let weight = weights[last * step];
+        let answer = answer_at(source, indices[last], size);
+        sums_modular::add_row(modulus, sums, weight, answer);
     }
 }
 
 // The sums of a piece of the table, from the weights of its block and the answers' rows that are its own. There is a sum for
 // each element.
 fn piece_sums(
+    modulus: Modulus,
     s: Shape,
     piece: usize,
     indices: &[u32],
@@ -98,7 +103,7 @@ fn piece_sums(
     sums: &mut [u64],
 )
     requires { ⌜ Weighted s (now indices) (now weights) × piece < pieceCount s ⌝ }
-    ensures { λ _. let sum = pieceSum s (now (indices .entry)) (now (weights .entry)) (now (store .entry)) piece in
+    ensures { λ _. let sum = pieceSum (prime modulus) s (now (indices .entry)) (now (weights .entry)) (now (store .entry)) piece in
         ⌜ now (sums .exit) ≡ tab (λ v. sum v % 2 ^ 64) (length (now (sums .entry))) ⌝ }
 {
     let grid_columns = s.grid_columns;
@@ -109,6 +114,7 @@ fn piece_sums(
     let offset = least(row % block_rows * block_columns, store.len());
     sums::clear(sums);
     add_answers(
+        modulus,
         sums,
         &weights[block..],
         s.grid_rows * grid_columns,
@@ -140,7 +146,7 @@ fn put_pieces(
     while piece < count {
         let start = piece * columns;
         let end = start + columns;
-        piece_sums(s, piece, indices, weights, store, sums);
+        piece_sums(modulus, s, piece, indices, weights, store, sums);
         sums::reduce_row(modulus, sums, &mut table[start..end]);
         piece += 1;
     }

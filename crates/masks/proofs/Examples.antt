@@ -36,7 +36,7 @@ counts : map (λ n. used 13 n five) (0 ∷ 1 ∷ 2 ∷ 3 ∷ []) ≡ 0 ∷ 3 ∷
 unfolding limit usable used
 counts = refl
 
-numbers : map (λ r. told r .number) (drawOutcome 4 [] 1 ∷ drawOutcome 1 five 4 ∷ drawOutcome 1 five 3 ∷ []) ≡ 1 ∷ 27 ∷ 0 ∷ []
+numbers : map (λ r. told r .number) (drawOutcome 5 [] 1 ∷ drawOutcome 1 five 4 ∷ drawOutcome 1 five 3 ∷ []) ≡ 1 ∷ 27 ∷ 0 ∷ []
 unfolding limit usable kept used drawTests drawOutcome first outcome outside moduli modulus noModulus
 numbers = refl
 

@@ -8,6 +8,7 @@ use mathlib.Core.Path.{_≡_, _∙_}
 use mathlib.Core.Bool.{false}
 use mathlib.Core.List.{List}
 use Prim.Native.Nat.{ℕ, _^_, _<_, _≤_}
+use native.Mathlib.Omega.{arith}
 use lib.ListN.{length}
 use borrow.Author.Tests.{ltb-false}
 use Rattle.algebra.proofs.Tests.{equal, alike}
@@ -25,7 +26,7 @@ pub record Ranged (h : Header) : Type 0 where
   pub known : noModulus (h .modulus) ≡ false
   pub prime : modulus (h .modulus) < 2 ^ 31
   pub kind : h .kind ≤ 3
-  pub modulus : h .modulus ≤ 3
+  pub modulus : h .modulus ≤ 255
   pub host-low : 1 ≤ h .host
   pub host : h .host ≤ 64
   pub rows : h .rows ≤ 16384
@@ -44,7 +45,7 @@ ranged h e =
     record {
       known = number .0;
       kind = inside-high 1 3 _ (kind .0);
-      modulus = inside-high 1 3 _ (number .0);
+      modulus = omega (arith, inside-high 1 (length moduli) _ (number .0));
       host-low = inside-low 1 64 _ (host .0);
       host = inside-high 1 64 _ (host .0);
       rows = sides .0 .high;

@@ -17,25 +17,28 @@ use Rattle.algebra.proofs.Orders.{row-end}
 use Rattle.algebra.proofs.Lists.{length-tab}
 use Rattle.algebra.proofs.Grids.{tab-cong, grid-cong}
 use Rattle.algebra.proofs.Sums.{sum-cong}
+use Rattle.refusal.specs.Limits.{mostElements}
 use Rattle.field.specs.declared.Modulus.{Modulus}
 use Rattle.field.specs.Modulus.{prime}
 use Rattle.sums.specs.Contracts.{zeros, reduced}
-use Rattle.sums_rows.specs.Contracts.{combination, added}
 use Rattle.sums.proofs.Reduced.{reduced-tab}
-use Rattle.sums_rows.proofs.Exact.{combination-fits, added-zeros}
+use Rattle.sums_rows.specs.Contracts.{added as Rows·added}
+use Rattle.sums_modular.specs.Contracts.{combination, added}
+use Rattle.sums_modular.proofs.Exact.{combination-≈, combination-fits, added-zeros}
 use Rattle.sums_packed.specs.Contracts.{packed, halves}
 use Rattle.sums_packed.proofs.Exact.{dot, halves-exact}
 use Rattle.product.specs.Product.{productEntry, productOf}
 
-pub one-row : (m : Modulus) (row b sums out : List ℕ) → AllBelow (prime m) row → AllBelow (prime m) b → length row ≤ 4096 → length sums ≡ length out
-    → reduced (prime m) (added (zeros sums) row b (length out)) out ≡ productOf (prime m) 1 (length row) (length out) row b
-unfolding productOf productEntry combination grid entry
+pub one-row : (m : Modulus) (row b sums out : List ℕ) → AllBelow (prime m) row → AllBelow (prime m) b → length row ≤ mostElements → length sums ≡ length out
+    → reduced (prime m) (added (prime m) (zeros sums) row b (length out)) out ≡ productOf (prime m) 1 (length row) (length out) row b
+unfolding productOf productEntry grid entry
 one-row m row b sums out below-row below-b few same =
     let n = length out in
+    let sum-of = combination (prime m) row b n in
     ap (λ (xs : List ℕ). reduced (prime m) xs out)
-    (added-zeros row b n sums (λ j l. combination-fits row b n m j few below-row below-b) ∙ ap (tab (combination row b n)) same)
-    ∙ reduced-tab (prime m) n (combination row b n) out refl
-    ∙ tab-cong _ _ n (λ j h. ap (λ (x : ℕ). x % prime m) (sum-cong (length row) _ _ (λ l k.
+    (added-zeros (prime m) row b n sums (λ j l. combination-fits m row b n j below-row below-b few) ∙ ap (tab sum-of) same)
+    ∙ reduced-tab (prime m) n sum-of out refl
+    ∙ tab-cong _ _ n (λ j h. combination-≈ m row b n j below-row below-b .same ∙ ap (λ (x : ℕ). x % prime m) (sum-cong (length row) _ _ (λ l k.
     let start : l ≡ 0 * length row + l = omega arith in
     ap (λ (t : ℕ). getD row t 0 * getD b (l * n + j) 0) start)))
 
@@ -65,7 +68,7 @@ module _ (n : ℕ) (first second out : List ℕ) (one : length first ≡ n) (siz
 module _ (m : Modulus) (inner : ℕ) (pair b : List ℕ) (small : prime m ≤ 257) (few : inner ≤ 127) (len : length pair ≡ 2 * inner)
     (below-pair : AllBelow (prime m) pair) (below-b : AllBelow (prime m) b) where
   half-exact : (upper : Bool) (weights sums out : List ℕ) → length weights ≡ inner → length out ≡ length sums
-      → reduced (prime m) (halves upper (added (zeros sums) (packed pair weights) b (length sums))) out
+      → reduced (prime m) (halves upper (Rows·added (zeros sums) (packed pair weights) b (length sums))) out
       ≡ tab (λ j. productEntry inner (length sums) pair b (cond upper 1 0) j % prime m) (length sums)
   unfolding productEntry
   half-exact upper weights sums out same size =
@@ -78,7 +81,7 @@ module _ (m : Modulus) (inner : ℕ) (pair b : List ℕ) (small : prime m ≤ 25
   pub two-rows : (empty weights sums cleared made first second out : List ℕ) → inner ≤ length empty → length weights ≡ length (take inner empty)
       → weights ≡ packed pair (take inner empty)
       → cleared ≡ zeros sums
-      → made ≡ added cleared (take inner (weights ++ drop inner empty)) b (length sums)
+      → made ≡ Rows·added cleared (take inner (weights ++ drop inner empty)) b (length sums)
       → length out ≡ 2 * length sums
       → first ≡ reduced (prime m) (halves false made) (take (length sums) out)
       → let w = written (length sums) first out in
@@ -90,7 +93,7 @@ module _ (m : Modulus) (inner : ℕ) (pair b : List ℕ) (small : prime m ≤ 25
       let thin : length (take inner empty) ≡ inner = length-take-le inner empty wide in
       let lent : take inner (weights ++ drop inner empty) ≡ packed pair (take inner empty)
       = take-at weights (drop inner empty) inner (same ∙ thin) ∙ is-weights in
-      let sums-are = is-made ∙ ap₂ (λ (s w : List ℕ). added s w b n) is-cleared lent in
+      let sums-are = is-made ∙ ap₂ (λ (s w : List ℕ). Rows·added s w b n) is-cleared lent in
       let low : first ≡ tab (λ j. productEntry inner n pair b 0 j % prime m) n
       = is-first ∙ ap (λ (xs : List ℕ). reduced (prime m) (halves false xs) (take n out)) sums-are
       ∙ half-exact false (take inner empty) sums (take n out) thin (length-take-le n out (omega arith)) in

@@ -56,7 +56,7 @@ fn product_row(modulus: Modulus, row: &[u32], b: &[u32], sums: &mut [u64], out: 
         ≡ productOf (prime modulus) 1 (length (now (row .entry))) (length (now (out .entry))) (now (row .entry)) (now (b .entry)) ⌝ }
 {
     sums::clear(sums);
-    sums_rows::add_rows(sums, row, b, out.len());
+    sums_modular::add_rows(modulus, sums, row, b, out.len());
     sums::reduce_row(modulus, sums, out);
 }
 

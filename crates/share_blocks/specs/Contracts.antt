@@ -4,9 +4,9 @@
 --   beyond s                == a side is beyond the limits of an accepted job
 --   encodeTests q s xs ms room == the tests of encoding: 6 of a side beyond the limits, and those of its matrix and masks
 --   Encodable s w xs ms     == weights, a matrix and masks of a side within the limits, of the right lengths
---   blockTerms s w xs i j   == the blocks' part of the sum at i, j: each row of blocks has one row of the matrix in it
---   maskTerms s w ms i j    == the masks' part
---   rowSums s w xs ms i j   == both
+--   blockTerms q s w xs i j == the blocks' part of the sum at i, j: each row of blocks has one row of the matrix in it
+--   maskTerms q s w ms i j  == the masks' part
+--   rowSums q s w xs ms i j == both
 --   encodedBlock q s w xs ms == these sums, in 64 bits and then modulo q, row by row
 --   encoded q s w xs ms out == what the output then holds
 use mathlib.Core.Path.{_≡_}
@@ -19,7 +19,7 @@ use Rattle.algebra.specs.Lists.{grid}
 use Rattle.algebra.specs.Sums.{sum}
 use Rattle.refusal.specs.Chain.{Test, outside, unlessRefused}
 use Rattle.refusal.specs.Limits.{mostElements}
-use Rattle.sums_rows.specs.Contracts.{combination}
+use Rattle.sums_modular.specs.Contracts.{combination}
 use Rattle.share_side.specs.declared.Side.{Side}
 use Rattle.share_side.specs.Sides.{blockLength, matrixLength, maskLength, matrixTests}
 use Rattle.share_side.specs.Contracts.{Small, weightCount}
@@ -39,23 +39,23 @@ pub record Encodable (s : Side) (w xs ms : List ℕ) : Type 0 where
   pub matrix : length xs ≡ matrixLength s
   pub masks : length ms ≡ maskLength s
 
-unfoldable pub blockTerms : Side → List ℕ → List ℕ → ℕ → ℕ → ℕ
-blockTerms s w xs i j =
+unfoldable pub blockTerms : ℕ → Side → List ℕ → List ℕ → ℕ → ℕ → ℕ
+blockTerms q s w xs i j =
     let columns = s .«grid_columns» in
     sum (s .«grid_rows») (λ k.
-    combination (take columns (drop (k * columns) w)) (drop ((k * s .«block_rows» + i) * (columns * s .«block_columns»)) xs)
+    combination q (take columns (drop (k * columns) w)) (drop ((k * s .«block_rows» + i) * (columns * s .«block_columns»)) xs)
     (s .«block_columns») j)
 
-unfoldable pub maskTerms : Side → List ℕ → List ℕ → ℕ → ℕ → ℕ
-maskTerms s w ms i j =
+unfoldable pub maskTerms : ℕ → Side → List ℕ → List ℕ → ℕ → ℕ → ℕ
+maskTerms q s w ms i j =
     let own = take (s .«mask_count») (drop (s .«grid_rows» * s .«grid_columns») w) in
-    combination own (drop (i * s .«block_columns») ms) (s .«block_rows» * s .«block_columns») j
+    combination q own (drop (i * s .«block_columns») ms) (s .«block_rows» * s .«block_columns») j
 
-unfoldable pub rowSums : Side → List ℕ → List ℕ → List ℕ → ℕ → ℕ → ℕ
-rowSums s w xs ms i j = blockTerms s w xs i j + maskTerms s w ms i j
+unfoldable pub rowSums : ℕ → Side → List ℕ → List ℕ → List ℕ → ℕ → ℕ → ℕ
+rowSums q s w xs ms i j = blockTerms q s w xs i j + maskTerms q s w ms i j
 
 unfoldable pub encodedBlock : ℕ → Side → List ℕ → List ℕ → List ℕ → List ℕ
-encodedBlock q s w xs ms = grid (λ i j. rowSums s w xs ms i j % 2 ^ 64 % q) (s .«block_rows») (s .«block_columns»)
+encodedBlock q s w xs ms = grid (λ i j. rowSums q s w xs ms i j % 2 ^ 64 % q) (s .«block_rows») (s .«block_columns»)
 
 unfoldable pub encoded : ℕ → Side → List ℕ → List ℕ → List ℕ → List ℕ → List ℕ
 encoded q s w xs ms out = unlessRefused (encodeTests q s xs ms (length out)) (encodedBlock q s w xs ms) out

@@ -67,9 +67,9 @@ fn encode_refusal(modulus: Modulus, s: Side, xs: &[u32], masks: &[u32], room: us
 }
 
 // Adds the blocks' part of row i of the block to the sums: each row of blocks has one row of the matrix in it.
-fn add_blocks(s: Side, i: usize, weights: &[u32], xs: &[u32], sums: &mut [u64])
+fn add_blocks(modulus: Modulus, s: Side, i: usize, weights: &[u32], xs: &[u32], sums: &mut [u64])
     requires { ⌜ Small s × i < s .«block_rows» × weightCount s ≤ length (now weights) × length (now xs) ≡ matrixLength s ⌝ }
-    ensures { λ _. let before = now (sums .entry) in let terms = blockTerms s (now (weights .entry)) (now (xs .entry)) i in
+    ensures { λ _. let before = now (sums .entry) in let terms = blockTerms (prime modulus) s (now (weights .entry)) (now (xs .entry)) i in
         ⌜ now (sums .exit) ≡ tab (λ j. (getD before j 0 + terms j) % 2 ^ 64) (length before) ⌝ }
 {
     let grid_rows = s.grid_rows;
@@ -82,33 +82,47 @@ fn add_blocks(s: Side, i: usize, weights: &[u32], xs: &[u32], sums: &mut [u64])
         let start = k * grid_columns;
         let end = start + grid_columns;
         let from = (k * block_rows + i) * width;
-        sums_rows::add_rows(sums, &weights[start..end], &xs[from..], block_columns);
+        sums_modular::add_rows(
+            modulus,
+            sums,
+            &weights[start..end],
+            &xs[from..],
+            block_columns,
+        );
         k += 1;
     }
 }
 
 // Adds the masks' part of row i of the block to the sums: each mask has one row in it.
-fn add_masks(s: Side, i: usize, weights: &[u32], masks: &[u32], sums: &mut [u64])
+fn add_masks(modulus: Modulus, s: Side, i: usize, weights: &[u32], masks: &[u32], sums: &mut [u64])
     requires { ⌜ Small s × i < s .«block_rows» × weightCount s ≤ length (now weights) × length (now masks) ≡ maskLength s ⌝ }
-    ensures { λ _. let before = now (sums .entry) in let terms = maskTerms s (now (weights .entry)) (now (masks .entry)) i in
+    ensures { λ _. let before = now (sums .entry) in let terms = maskTerms (prime modulus) s (now (weights .entry)) (now (masks .entry)) i in
         ⌜ now (sums .exit) ≡ tab (λ j. (getD before j 0 + terms j) % 2 ^ 64) (length before) ⌝ }
 {
     let start = s.grid_rows * s.grid_columns;
     let end = start + s.mask_count;
     let from = i * s.block_columns;
     let block = s.block_rows * s.block_columns;
-    sums_rows::add_rows(sums, &weights[start..end], &masks[from..], block);
+    sums_modular::add_rows(modulus, sums, &weights[start..end], &masks[from..], block);
 }
 
 // The sums of row i of the block.
-fn sum_row(s: Side, i: usize, weights: &[u32], xs: &[u32], masks: &[u32], sums: &mut [u64])
+fn sum_row(
+    modulus: Modulus,
+    s: Side,
+    i: usize,
+    weights: &[u32],
+    xs: &[u32],
+    masks: &[u32],
+    sums: &mut [u64],
+)
     requires { ⌜ Encodable s (now weights) (now xs) (now masks) × i < s .«block_rows» ⌝ }
-    ensures { λ _. let terms = rowSums s (now (weights .entry)) (now (xs .entry)) (now (masks .entry)) i in
+    ensures { λ _. let terms = rowSums (prime modulus) s (now (weights .entry)) (now (xs .entry)) (now (masks .entry)) i in
         ⌜ now (sums .exit) ≡ tab (λ j. terms j % 2 ^ 64) (length (now (sums .entry))) ⌝ }
 {
     sums::clear(sums);
-    add_blocks(s, i, weights, xs, sums);
-    add_masks(s, i, weights, masks, sums);
+    add_blocks(modulus, s, i, weights, xs, sums);
+    add_masks(modulus, s, i, weights, masks, sums);
 }
 
 // The block, row by row. There is a sum for each column.
@@ -133,7 +147,7 @@ fn encode_rows(
     while i < block_rows {
         let start = i * block_columns;
         let end = start + block_columns;
-        sum_row(s, i, weights, xs, masks, sums);
+        sum_row(modulus, s, i, weights, xs, masks, sums);
         sums::reduce_row(modulus, sums, &mut out[start..end]);
         i += 1;
     }

@@ -5,10 +5,12 @@ use Prim.Native.Nat.{ℕ, _-_, _*_, _≤_}
 use native.Mathlib.Omega.{arith}
 use borrow.Author.Needs.{needs}
 use lib.ListN.{length, take, drop}
+use Rattle.field.specs.Modulus.{prime}
 use Rattle.sums.specs.Contracts.{zeros}
+use Rattle.sums.proofs.Exact.{zeros-more}
 use Rattle.algebra.proofs.Lists.{rest-is, rest-clipped}
-use Rattle.decode_table.specs.Contracts.{blockCount, blockLength, pieceBlock, pieceRow, answersAdded, pieceSum}
-use Rattle.decode_table.proofs.Pieces.{Located, located, block-there, piece-there, cleared-sums}
+use Rattle.decode_table.specs.Contracts.{blockCount, blockLength, pieceBlock, pieceRow, answersAdded, pieceTerm, pieceSum}
+use Rattle.decode_table.proofs.Pieces.{Located, located, block-there, piece-there}
 use Rattle.decode_table.proofs.piece_sums.Statement.{statement}
 use Rattle.decode_table.proofs.piece_sums.Tie as tie
 
@@ -100,7 +102,7 @@ same-length : tie.Need-same-length
 same-length c = search needs
 
 returns : tie.Need-returns
-unfolding blockCount blockLength pieceBlock pieceRow pieceSum answersAdded
+unfolding blockCount blockLength pieceBlock pieceRow pieceTerm pieceSum answersAdded
 returns c =
     let add = c .before .before in
     let clear = add .before .before .before .before .before .before .before in
@@ -110,11 +112,11 @@ returns c =
     let offset = pieceRow (a .s) (a .piece) * a .s .«block_columns» in
     let from = least .least .result in
     let terms : List ℕ → List ℕ → List ℕ → List ℕ
-    = λ l ws store. answersAdded l ws (blockCount (a .s)) (a .indices .now) store (blockLength (a .s)) in
+    = λ l ws store. answersAdded (prime (a .modulus)) l ws (blockCount (a .s)) (a .indices .now) store (blockLength (a .s)) in
     add .add-answers .ensures
     ∙ ap (λ (l : List ℕ). terms l (take (length (a .weights .now) - block) (drop block (a .weights .now))) (take (length (a .store .now) - from) (drop from (a .store .now)))) (clear .clear .ensures)
     ∙ ap₂ (terms (zeros (a .sums .now))) (rest-is (a .weights .now) block) (rest-clipped (a .store .now) offset from (least .least .ensures))
-    ∙ cleared-sums (pieceSum (a .s) (a .indices .now) (a .weights .now) (a .store .now) (a .piece)) (a .sums .now)
+    ∙ zeros-more (pieceSum (prime (a .modulus)) (a .s) (a .indices .now) (a .weights .now) (a .store .now) (a .piece)) (a .sums .now)
 
 pub piece-sums-spec : {M : Type 1} → statement M
 piece-sums-spec =

@@ -22,7 +22,7 @@ use Rattle.decode_table.proofs.put_pieces.Tie as tie
 
 -- an element of the table, by its piece
 abbrev element : Modulus → Shape → List ℕ → List ℕ → List ℕ → ℕ → ℕ → ℕ
-element modulus s indices weights store w v = pieceSum s indices weights store w v % 2 ^ 64 % prime modulus
+element modulus s indices weights store w v = pieceSum (prime modulus) s indices weights store w v % 2 ^ 64 % prime modulus
 
 abbrev Inv-loop : tie.InvT-loop
 Inv-loop modulus s indices weights store sums₀ table₀ columns count piece₀ sums table piece =
@@ -114,7 +114,7 @@ loop-again c =
     let loop = l .before .loop in
     let q = prime (a .modulus) in
     let columns = a .s .«block_columns» in
-    let f : ℕ → ℕ = λ v. pieceSum (a .s) (a .indices .now) (a .weights .now) (a .store .now) (loop .piece) v % 2 ^ 64 in
+    let f : ℕ → ℕ = λ v. pieceSum q (a .s) (a .indices .now) (a .weights .now) (a .store .now) (loop .piece) v % 2 ^ 64 in
     let out = take columns (drop (loop .piece * columns) (loop .table)) in
     let made = rw add-sub-cancel-left at (reduce .reduce-row .ensures) in
     let is = made ∙ ap (λ (xs : List ℕ). reduced q xs out) (sums .piece-sums .ensures ∙ ap (tab f) (loop .inv .wide)) ∙ reduced-tab q columns f out (piece-length l) in

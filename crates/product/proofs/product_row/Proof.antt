@@ -5,7 +5,7 @@ use Prim.Native.Nat.{ℕ}
 use lib.ListN.{length}
 use Rattle.field.specs.Modulus.{prime}
 use Rattle.sums.specs.Contracts.{reduced}
-use Rattle.sums_rows.specs.Contracts.{added}
+use Rattle.sums_modular.specs.Contracts.{added}
 use Rattle.product.proofs.Rows.{one-row}
 use borrow.Author.Needs.{needs}
 use Rattle.product.proofs.product_row.Statement.{statement}
@@ -35,7 +35,7 @@ returns c =
     let a = start .args in
     let pre = start .pre in
     reduce .ensures
-    ∙ ap (λ (sums : List ℕ). reduced (prime (a .modulus)) sums (a .out .now)) (after .add-rows .ensures ∙ ap (λ (sums : List ℕ). added sums (a .row .now) (a .b .now) (length (a .out .now))) (cleared .clear .ensures))
+    ∙ ap (λ (sums : List ℕ). reduced (prime (a .modulus)) sums (a .out .now)) (after .add-rows .ensures ∙ ap (λ (sums : List ℕ). added (prime (a .modulus)) sums (a .row .now) (a .b .now) (length (a .out .now))) (cleared .clear .ensures))
     ∙ one-row (a .modulus) (a .row .now) (a .b .now) (a .sums .now) (a .out .now) (pre .0) (pre .1) (pre .2) (pre .3)
 
 pub product-row-spec : {M : Type 1} → statement M

@@ -1,56 +1,45 @@
 -- `share_blocks::add_blocks` meets its contract.
 use mathlib.Core.Path.{_≡_, refl, ap, ap₂, _∙_}
 use mathlib.Core.List.{List}
-use Prim.Native.Nat.{ℕ, _+_, _-_, _*_, _%_, _^_, _≤_}
+use Prim.Native.Nat.{ℕ, _+_, _-_, _*_, _≤_}
 use native.Mathlib.Nat.{le-refl, add-sub-cancel-left}
-use native.Mathlib.Numerals.{add-one}
 use native.Mathlib.Omega.{arith}
 use borrow.Author.Needs.{needs}
-use lib.ListN.{length, getD, take, drop}
-use Rattle.algebra.specs.Lists.{tab}
-use Rattle.algebra.specs.Sums.{sum}
+use lib.ListN.{length, take, drop}
 use Rattle.algebra.proofs.Lists.{rest-is}
-use Rattle.algebra.proofs.Grids.{tab-cong}
-use Rattle.sums_rows.specs.Contracts.{combination, added}
-use Rattle.sums_rows.proofs.Steps.{sumsTo, sums-none}
-use Rattle.sums_rows.proofs.Exact.{added-more}
+use Rattle.field.specs.Modulus.{prime}
+use Rattle.sums.proofs.Steps.{sumsTo, sums-none, sums-more}
+use Rattle.sums_folded.specs.Contracts.{pairedAdded}
+use Rattle.sums_modular.specs.Contracts.{combination, added}
 use Rattle.share_side.proofs.Parts.{Part, row-part}
 use Rattle.share_blocks.specs.Contracts.{blockTerms}
 use Rattle.share_blocks.proofs.Offsets.{RowAt, row-at, width-fits}
 use Rattle.share_blocks.proofs.add_blocks.Statement.{statement}
 use Rattle.share_blocks.proofs.add_blocks.Tie as tie
 
--- one more part
-terms-step : (sums : List ℕ) (f : ℕ → ℕ → ℕ) (k : ℕ)
-    → tab (λ j. (getD sums j 0 + sum k (λ h. f h j) + f k j) % 2 ^ 64) (length sums) ≡ tab (λ j. (getD sums j 0 + sum (k + 1) (λ h. f h j)) % 2 ^ 64) (length sums)
-unfolding sum
-terms-step sums f k =
-    rw add-one (tab-cong _ _ (length sums) (λ j l. let same : (getD sums j 0 + sum k (λ h. f h j) + f k j) % 2 ^ 64 ≡ (getD sums j 0 + (sum k (λ h. f h j) + f k j)) % 2 ^ 64 = omega arith in same))
-
--- the part of row h of the blocks
-abbrev part : ℕ → ℕ → ℕ → ℕ → List ℕ → List ℕ → ℕ → ℕ → ℕ → ℕ
-part grid-columns block-rows block-columns width weights xs i h j =
-    combination (take grid-columns (drop (h * grid-columns) weights)) (drop ((h * block-rows + i) * width) xs) block-columns j
+-- the part of row h of the blocks, in column j
+abbrev part : ℕ → ℕ → ℕ → ℕ → ℕ → List ℕ → List ℕ → ℕ → ℕ → ℕ → ℕ
+part q grid-columns block-rows block-columns width weights xs i h j =
+    combination q (take grid-columns (drop (h * grid-columns) weights)) (drop ((h * block-rows + i) * width) xs) block-columns j
 
 abbrev Inv-loop : tie.InvT-loop
-Inv-loop i weights xs sums₀ grid-rows grid-columns block-rows block-columns width k₀ sums k =
+Inv-loop modulus i weights xs sums₀ grid-rows grid-columns block-rows block-columns width k₀ sums k =
     record {
-      is : sums ≡ tab (λ j. (getD sums₀ j 0 + sum k (λ h. part grid-columns block-rows block-columns width weights xs i h j)) % 2 ^ 64) (length sums₀);
+      is : sums ≡ sumsTo sums₀ (part (prime modulus) grid-columns block-rows block-columns width weights xs i) k;
       short : k ≤ grid-rows;
       same : length sums ≡ length sums₀;
     }
 
 abbrev μ-loop : tie.MeasureT-loop
-μ-loop i weights xs sums₀ grid-rows grid-columns block-rows block-columns width k₀ sums k = grid-rows - k
+μ-loop modulus i weights xs sums₀ grid-rows grid-columns block-rows block-columns width k₀ sums k = grid-rows - k
 
 mul-width : tie.Need-mul-width Inv-loop μ-loop
 mul-width c = let e = c .before .before .before in width-fits (e .args .s) (e .pre .0)
 
 loop-holds : tie.Need-loop-holds Inv-loop μ-loop
-unfolding sumsTo sum
 loop-holds c =
     let a = c .before .before .before .args in
-    record { is = sums-none (a .sums .now) (λ h j. 0) (λ j l. c .slice-known .given j .fits); short = omega arith; same = refl }
+    record { is = sums-none (a .sums .now) _ (λ j l. c .slice-known .given j .fits); short = omega arith; same = refl }
 
 -- the weights of row k of the blocks, and row i of it
 weights-row : (c : tie.In-loop Inv-loop μ-loop)
@@ -110,19 +99,20 @@ loop-less : tie.Need-loop-less Inv-loop μ-loop
 loop-less c = omega arith
 
 loop-again : tie.Need-loop-again Inv-loop μ-loop
+unfolding pairedAdded
 loop-again c =
     let l = c .before .before .before .before .before .before in
     let a = l .before .before .before .before .before .args in
     let k = l .before .loop .k in
     let from = (k * a .s .«block_rows» + a .i) * (a .s .«grid_columns» * a .s .«block_columns») in
-    let f : ℕ → ℕ = λ j. getD (a .sums .now) j 0 + sum k (λ h. part (a .s .«grid_columns») (a .s .«block_rows») (a .s .«block_columns») (a .s .«grid_columns» * a .s .«block_columns») (a .weights .now) (a .xs .now) (a .i) h j) in
+    let q = prime (a .modulus) in
+    let parts = part q (a .s .«grid_columns») (a .s .«block_rows») (a .s .«block_columns») (a .s .«grid_columns» * a .s .«block_columns») (a .weights .now) (a .xs .now) (a .i) in
     let row : take (k * a .s .«grid_columns» + a .s .«grid_columns» - k * a .s .«grid_columns») (drop (k * a .s .«grid_columns») (a .weights .now)) ≡ take (a .s .«grid_columns») (drop (k * a .s .«grid_columns») (a .weights .now)) = rw add-sub-cancel-left in
     record {
       is =
           c .before .before .add-rows .ensures
-          ∙ ap₂ (λ (w m : List ℕ). added (l .before .loop .sums) w m (a .s .«block_columns»)) row (rest-is (a .xs .now) from)
-          ∙ added-more _ _ (a .s .«block_columns») f (length (a .sums .now)) (l .before .loop .sums) (l .before .loop .inv .is)
-          ∙ terms-step (a .sums .now) (λ h j. part (a .s .«grid_columns») (a .s .«block_rows») (a .s .«block_columns») (a .s .«grid_columns» * a .s .«block_columns») (a .weights .now) (a .xs .now) (a .i) h j) k;
+          ∙ ap₂ (λ (w m : List ℕ). added q (l .before .loop .sums) w m (a .s .«block_columns»)) row (rest-is (a .xs .now) from)
+          ∙ sums-more (a .sums .now) parts (l .before .loop .sums) (parts k) k (l .before .loop .inv .is) (λ j. refl);
       short = omega arith;
       same = omega arith;
     }
@@ -131,12 +121,13 @@ same-length : tie.Need-same-length Inv-loop μ-loop
 same-length c = c .before .loop .inv .same
 
 returns : tie.Need-returns Inv-loop μ-loop
-unfolding blockTerms
+unfolding blockTerms sumsTo
 returns c =
     let l = c .before in
     let a = l .before .before .before .before .args in
     let all : l .loop .k ≡ a .s .«grid_rows» = omega arith in
-    l .loop .inv .is ∙ ap (λ (n : ℕ). tab (λ j. (getD (a .sums .now) j 0 + sum n (λ h. part (a .s .«grid_columns») (a .s .«block_rows») (a .s .«block_columns») (a .s .«grid_columns» * a .s .«block_columns») (a .weights .now) (a .xs .now) (a .i) h j)) % 2 ^ 64) (length (a .sums .now))) all
+    let parts = part (prime (a .modulus)) (a .s .«grid_columns») (a .s .«block_rows») (a .s .«block_columns») (a .s .«grid_columns» * a .s .«block_columns») (a .weights .now) (a .xs .now) (a .i) in
+    l .loop .inv .is ∙ ap (sumsTo (a .sums .now) parts) all
 
 pub add-blocks-spec : {M : Type 1} → statement M
 add-blocks-spec =

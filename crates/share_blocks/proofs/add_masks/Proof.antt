@@ -7,7 +7,9 @@ use native.Mathlib.Omega.{arith}
 use borrow.Author.Needs.{needs}
 use lib.ListN.{length, take, drop}
 use Rattle.algebra.proofs.Lists.{rest-is}
-use Rattle.sums_rows.specs.Contracts.{added}
+use Rattle.field.specs.Modulus.{prime}
+use Rattle.sums_folded.specs.Contracts.{pairedAdded}
+use Rattle.sums_modular.specs.Contracts.{added}
 use Rattle.share_side.proofs.Parts.{Part, masks-part}
 use Rattle.share_blocks.specs.Contracts.{maskTerms}
 use Rattle.share_blocks.proofs.Offsets.{Rest, mask-row, block-fits}
@@ -64,13 +66,13 @@ same-length : tie.Need-same-length
 same-length c = search needs
 
 returns : tie.Need-returns
-unfolding maskTerms added
+unfolding maskTerms pairedAdded
 returns c =
     let a = c .before .before .before .before .before .before .before .before .before .before .before .before .before .args in
     let n = a .s .«grid_rows» * a .s .«grid_columns» in
     let from = a .i * a .s .«block_columns» in
     let ws : take (n + a .s .«mask_count» - n) (drop n (a .weights .now)) ≡ take (a .s .«mask_count») (drop n (a .weights .now)) = rw add-sub-cancel-left in
-    c .before .before .add-rows .ensures ∙ ap₂ (λ (w m : List ℕ). added (a .sums .now) w m (a .s .«block_rows» * a .s .«block_columns»)) ws (rest-is (a .masks .now) from)
+    c .before .before .add-rows .ensures ∙ ap₂ (λ (w m : List ℕ). added (prime (a .modulus)) (a .sums .now) w m (a .s .«block_rows» * a .s .«block_columns»)) ws (rest-is (a .masks .now) from)
 
 pub add-masks-spec : {M : Type 1} → statement M
 add-masks-spec =

@@ -22,7 +22,7 @@ use Rattle.share_blocks.proofs.encode_rows.Tie as tie
 
 -- an element of the block
 abbrev element : Modulus → Side → List ℕ → List ℕ → List ℕ → ℕ → ℕ → ℕ
-element modulus s weights xs masks i j = rowSums s weights xs masks i j % 2 ^ 64 % prime modulus
+element modulus s weights xs masks i j = rowSums (prime modulus) s weights xs masks i j % 2 ^ 64 % prime modulus
 
 abbrev Inv-loop : tie.InvT-loop
 Inv-loop modulus s weights xs masks sums₀ out₀ rows columns i₀ sums out i =
@@ -88,7 +88,7 @@ loop-again c =
     let columns = a .s .«block_columns» in
     let part = take (i * columns + columns - i * columns) (drop (i * columns) (l .before .loop .out)) in
     let f = element (a .modulus) (a .s) (a .weights .now) (a .xs .now) (a .masks .now) in
-    let g : ℕ → ℕ = λ j. rowSums (a .s) (a .weights .now) (a .xs .now) (a .masks .now) i j % 2 ^ 64 in
+    let g : ℕ → ℕ = λ j. rowSums (prime (a .modulus)) (a .s) (a .weights .now) (a .xs .now) (a .masks .now) i j % 2 ^ 64 in
     record {
       short = omega arith;
       wide = omega arith;

@@ -5,6 +5,7 @@ use Prim.Native.Nat.{ℕ, _+_, _%_, _^_}
 use borrow.Author.Needs.{needs}
 use lib.ListN.{length, getD}
 use Rattle.algebra.specs.Lists.{tab}
+use Rattle.field.specs.Modulus.{prime}
 use Rattle.share_blocks.specs.Contracts.{blockTerms}
 use Rattle.share_blocks.proofs.Rows.{row-sums}
 use Rattle.share_blocks.proofs.sum_row.Statement.{statement}
@@ -28,8 +29,8 @@ returns c =
     let blocks = masks .before .before .before .before in
     let cleared = blocks .before .before .before .before in
     let a = cleared .before .before .before .before .before .before .args in
-    row-sums (a .s) (a .weights .now) (a .xs .now) (a .masks .now) (a .i) (a .sums .now) _ _
-    (blocks .add-blocks .ensures ∙ ap (λ (z : List ℕ). tab (λ j. (getD z j 0 + blockTerms (a .s) (a .weights .now) (a .xs .now) (a .i) j) % 2 ^ 64) (length z)) (cleared .clear .ensures))
+    row-sums (prime (a .modulus)) (a .s) (a .weights .now) (a .xs .now) (a .masks .now) (a .i) (a .sums .now) _ _
+    (blocks .add-blocks .ensures ∙ ap (λ (z : List ℕ). tab (λ j. (getD z j 0 + blockTerms (prime (a .modulus)) (a .s) (a .weights .now) (a .xs .now) (a .i) j) % 2 ^ 64) (length z)) (cleared .clear .ensures))
     (masks .add-masks .ensures)
 
 pub sum-row-spec : {M : Type 1} → statement M
