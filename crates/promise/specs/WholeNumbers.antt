@@ -1,4 +1,4 @@
--- The decoded table as whole numbers (01, "Signed reading").
+-- The decoded table as whole numbers (01, "Signed reading"; 02, U4).
 --
 --   exactEntry how x u v   == the exact whole-number entry of AB at row u and column v, the elements of A and B taken as they
 --                             are or all by their signed reading
@@ -7,7 +7,7 @@
 use mathlib.Core.Path.{_≡_}
 use mathlib.Core.Bool.{true}
 use mathlib.Core.List.{List, [], _∷_, _++_}
-use Prim.Native.Nat.{ℕ, suc, _<_, _≤_}
+use Prim.Native.Nat.{ℕ, suc, _*_, _<_, _≤_}
 use lib.IntN.{ℤ, pos}
 use lib.ListN.{length, getD}
 use Rattle.algebra.specs.Lists.{entry, AllBelow}
@@ -36,6 +36,14 @@ pub record WholeNumbers (x : Task) (table : List ℕ) : Type 0 where
   pub stands : (how : Taking)
       → ((u v : ℕ) → u < x .job .t → v < x .job .r → (k : ℕ) × (k < prime (x .job)) × (exactEntry how x u v ≡ pos k))
       → (u v : ℕ) → u < x .job .t → v < x .job .r → pos (entry (x .job .r) table u v) ≡ exactEntry how x u v
+  -- "A depth table comes back as exactly as a marker table" (02, U4): counts up to c in A and up to d in B, of which s products fit
+  pub bounded : (c d : ℕ) → x .job .s * (c * d) < prime (x .job) → AllBelow (suc c) (x .a) → AllBelow (suc d) (x .b)
+      → (u v : ℕ) → u < x .job .t → v < x .job .r
+      → entry (x .job .r) table u v ≡ productEntry (x .job .s) (x .job .r) (x .a) (x .b) u v
+  -- depths 0..362 with s = 16384 reach at most 2147024896, which fits q = 2147483647
+  pub depths : prime (x .job) ≡ 2147483647 → AllBelow 363 (x .a) → AllBelow 363 (x .b)
+      → (u v : ℕ) → u < x .job .t → v < x .job .r
+      → entry (x .job .r) table u v ≡ productEntry (x .job .s) (x .job .r) (x .a) (x .b) u v
   -- "Counts 0..2 with s = 16384 reach at most 65536, which fits q = 65537."
   pub counts : prime (x .job) ≡ 65537 → AllBelow 3 (x .a) → AllBelow 3 (x .b)
       → (u v : ℕ) → u < x .job .t → v < x .job .r
