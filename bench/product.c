@@ -1,5 +1,5 @@
 /*
- * The product of two 64 by 64 blocks, modulo 257 and modulo 65537, timed in one run:
+ * The product of two 64 by 64 blocks, modulo 257, 65537 and 2147483647, timed in one run:
  *
  *   library     mukerihe_product of libmukerihe.a, big-endian bytes in and out
  *   FLINT       nmod_mat_mul on matrices that are filled beforehand
@@ -20,6 +20,13 @@
 enum { SIDE = 64, COUNT = SIDE * SIDE, BYTES = 4 * COUNT, ROUNDS = 4001, WARM_UP = 200 };
 
 enum { LIBRARY, FLINT, PLAIN_RUST, CONTESTANTS };
+
+/* The modulus numbers that are timed, and their primes. */
+static const struct {
+    uint32_t number, q;
+} moduli[] = {{2, 257}, {3, 65537}, {4, 2147483647}};
+
+enum { MODULI = sizeof moduli / sizeof moduli[0] };
 
 /* The product in plain Rust. */
 uint32_t plain_product(uint32_t modulus, uint32_t rows, uint32_t inner, uint32_t columns,
@@ -153,18 +160,18 @@ static void race(struct job *job)
     print("fastest", times, 0);
 }
 
-/* Checks and times both moduli. */
+/* Checks every modulus, then times every modulus. */
 int main(void)
 {
-    static struct job small, large;
-    begin(&small, 2, 257);
-    begin(&large, 3, 65537);
-    check(&small);
-    check(&large);
+    static struct job jobs[MODULI];
+    for (int i = 0; i < MODULI; i++) {
+        begin(&jobs[i], moduli[i].number, moduli[i].q);
+        check(&jobs[i]);
+    }
     printf("FLINT %s, one 64 x 64 x 64 product, %d rounds\n", FLINT_VERSION, ROUNDS);
-    printf("q 257\n");
-    race(&small);
-    printf("q 65537\n");
-    race(&large);
+    for (int i = 0; i < MODULI; i++) {
+        printf("q %u\n", (unsigned)moduli[i].q);
+        race(&jobs[i]);
+    }
     return 0;
 }

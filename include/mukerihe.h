@@ -28,7 +28,7 @@ extern "C" {
  * Blocks are stored row by row. An element is a whole number from 0 to q - 1 in 4 bytes, the
  * highest byte first (big-endian). All lengths count bytes.
  *
- *   modulus     the modulus number: 1, 2 or 3 for q = 13, 257 or 65537
+ *   modulus     the modulus number: 1, 2, 3 or 4 for q = 13, 257, 65537 or 2147483647
  *   rows        rows of a and of out, 1 to 16384
  *   inner       columns of a and rows of b, 1 to 16384
  *   columns     columns of b and of out, 1 to 16384
@@ -44,7 +44,7 @@ extern "C" {
  * The function returns 0 when the product is made, and all of out is then written. Otherwise it
  * returns the first of these numbers that fits, tested in this order, and no byte of out changes:
  *
- *    1  the modulus number is not 1, 2 or 3
+ *    1  the modulus number is not 1, 2, 3 or 4
  *    2  rows, inner or columns is not 1 to 16384
  *    6  a, b or out would hold more than 4096 elements
  *   13  a_length, b_length or out_length is not exact

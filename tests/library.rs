@@ -32,15 +32,21 @@ extern "C" {
 /// How many calls are made.
 const CALLS: u32 = 6000;
 
+/// How many calls come first, with the largest blocks.
+const LARGE: u32 = 35;
+
 /// The numbers that a call can return, each with the least count of calls that must get it.
 const FLOORS: [(u32, u32); 6] = [
-    (0, 2058),
-    (1, 1142),
-    (2, 807),
-    (6, 663),
-    (13, 1175),
-    (14, 155),
+    (0, 2060),
+    (1, 1120),
+    (2, 830),
+    (6, 680),
+    (13, 1130),
+    (14, 145),
 ];
+
+/// The modulus numbers, each with the least count of calls that must be carried out.
+const DONE: [(u32, u32); 4] = [(1, 510), (2, 550), (3, 490), (4, 490)];
 
 /// How many bytes are watched before and after the output.
 const GUARD: usize = 64;
@@ -58,7 +64,7 @@ struct Call {
 
 /// The prime of a modulus number.
 fn prime(modulus: u32) -> Option<u32> {
-    [13, 257, 65537]
+    [13, 257, 65537, 2147483647]
         .get(modulus.wrapping_sub(1) as usize)
         .copied()
 }
@@ -98,10 +104,10 @@ fn due(call: &Call) -> Result<Vec<u8>, u32> {
         return Err(14);
     }
     let entry = |i: usize, j: usize| {
-        let sum: u64 = (0..inner)
-            .map(|k| u64::from(a[i * inner + k]) * u64::from(b[k * columns + j]))
+        let sum: u128 = (0..inner)
+            .map(|k| u128::from(a[i * inner + k]) * u128::from(b[k * columns + j]))
             .sum();
-        (sum % u64::from(q)) as u32
+        (sum % u128::from(q)) as u32
     };
     let cells = (0..rows).flat_map(|i| (0..columns).map(move |j| (i, j)));
     Ok(bytes(
@@ -161,33 +167,56 @@ fn run(call: &Call, out: &mut [u8]) -> u32 {
     }
 }
 
-/// A call with exact lengths and elements below q. The first have the largest blocks, and three
-/// have a block of 4097 elements; some have nothing but q - 1.
-fn drawn(random: &mut Random, round: u32) -> Call {
-    let modulus = random.within(1, 3);
-    let q = prime(modulus).expect("a modulus number");
-    let sizes = match round {
-        0..=5 => [64, 64, 64],
-        6..=8 => [1, 4096, 1],
-        9..=11 => [4096, 1, 1],
-        12..=14 => [1, 1, 4096],
-        15 => [17, 241, 1],
-        16 => [1, 17, 241],
-        17 => [17, 1, 241],
+/// The sizes of a call. The first `LARGE` calls have the largest blocks; in three of them a block has
+/// 4097 elements.
+fn sizes(random: &mut Random, round: u32) -> [u32; 3] {
+    match round {
+        0..=7 => [64, 64, 64],
+        8..=15 => [1, 4096, 1],
+        16..=23 => [4096, 1, 1],
+        24..=31 => [1, 1, 4096],
+        32 => [17, 241, 1],
+        33 => [1, 17, 241],
+        34 => [17, 1, 241],
         _ if round % 50 == 0 => [0; 3].map(|_| random.within(1, 64)),
+        _ if round % 50 == 1 => long_sizes(random),
         _ => [0; 3].map(|_| random.within(1, 9)),
+    }
+}
+
+/// Sizes with a large inner one.
+fn long_sizes(random: &mut Random) -> [u32; 3] {
+    let inner = random.within(65, 4096);
+    let [rows, columns] = [0; 2].map(|_| random.within(1, 4096 / inner));
+    [rows, inner, columns]
+}
+
+/// A share of a kind: 0 has nothing but q - 1; 1 has 0, 1 and q - 1 alone, so that some sums are multiples
+/// of q; any other has any elements.
+fn share(random: &mut Random, kind: u32, q: u32, count: usize) -> Vec<u8> {
+    let elements = match kind {
+        0 => vec![q - 1; count],
+        1 => (0..count).map(|_| [0, 1, q - 1][random.index(3)]).collect(),
+        _ => random.elements(count, q),
     };
+    bytes(&elements)
+}
+
+/// A call with exact lengths and elements below q. The first `LARGE` go through the modulus numbers, by
+/// turns with nothing but q - 1 and with any elements.
+fn drawn(random: &mut Random, round: u32) -> Call {
+    let (modulus, kind) = match round {
+        0..LARGE => (round % 4 + 1, round / 4 % 2 * 2),
+        _ => (random.within(1, 4), random.within(0, 9)),
+    };
+    let q = prime(modulus).expect("a modulus number");
+    let sizes = sizes(random, round);
     let [rows, inner, columns] = sizes.map(|size| size as usize);
-    let greatest = random.within(0, 9) == 0;
-    let mut share = |count| match greatest {
-        true => bytes(&vec![q - 1; count]),
-        false => bytes(&random.elements(count, q)),
-    };
     Call {
         modulus,
         sizes,
-        a: share(rows * inner),
-        b: share(inner * columns),
+        a: share(random, kind, q, rows * inner),
+        b: share(random, kind, q, inner * columns),
         out_length: 4 * rows * columns,
         nulls: round % 2 == 0,
     }
@@ -197,7 +226,7 @@ fn drawn(random: &mut Random, round: u32) -> Call {
 fn spoil(random: &mut Random, call: &mut Call) {
     let which = random.index(3);
     match random.within(0, 6) {
-        0 => call.modulus = [0, 4, 257, u32::MAX][random.index(4)],
+        0 => call.modulus = [0, 5, 6, 257, 260, u32::MAX][random.index(6)],
         1 => call.sizes[which] = [0, 16385, 65536, u32::MAX][random.index(4)],
         2 => call.sizes[which] = random.within(1, 16384),
         3 => call.out_length = other_length(random, call.out_length),
@@ -230,22 +259,22 @@ fn spoil_length(random: &mut Random, share: &mut Vec<u8>) {
     share.resize(length, 0);
 }
 
-/// Puts q - 1, q, 2^32 - 1 or any word over the first element, the last or any other.
+/// Puts q - 1, q, q + 1, 2^32 - 1 or any word over the first element, the last or any other.
 fn spoil_element(random: &mut Random, share: &mut [u8], q: u32) {
     let count = share.len() / 4;
     if count > 0 {
         let at = [0, count - 1, random.index(count)][random.index(3)];
-        let element = [q - 1, q, u32::MAX, random.word()][random.index(4)];
+        let element = [q - 1, q, q + 1, u32::MAX, random.word()][random.index(5)];
         share[4 * at..4 * at + 4].copy_from_slice(&element.to_be_bytes());
     }
 }
 
 /// Panics unless the numbers are those of the floors, and each occurred as often as its floor says.
-fn hold_floors(counts: &BTreeMap<u32, u32>) {
-    let numbers = FLOORS.iter().map(|(number, _)| number);
+fn hold_floors(floors: &[(u32, u32)], counts: &BTreeMap<u32, u32>) {
+    let numbers = floors.iter().map(|(number, _)| number);
     assert!(counts.keys().eq(numbers), "other numbers: {counts:?}");
-    for (number, least) in FLOORS {
-        assert!(counts[&number] >= least, "{number}: not {least} calls");
+    for (number, least) in floors {
+        assert!(counts[number] >= *least, "{number}: not {least} calls");
     }
 }
 
@@ -253,17 +282,24 @@ fn hold_floors(counts: &BTreeMap<u32, u32>) {
 fn main() {
     let random = &mut Random::new(2028);
     let mut counts: BTreeMap<u32, u32> = BTreeMap::new();
+    let mut done: BTreeMap<u32, u32> = BTreeMap::new();
     for round in 0..CALLS {
         let mut call = drawn(random, round);
-        let faults = if round < 18 {
+        let faults = if round < LARGE {
             0
         } else {
             round % 3 * random.within(1, 2)
         };
         (0..faults).for_each(|_| spoil(random, &mut call));
-        *counts.entry(compare(random, round, &call)).or_default() += 1;
+        let number = compare(random, round, &call);
+        *counts.entry(number).or_default() += 1;
+        if number == 0 {
+            *done.entry(call.modulus).or_default() += 1;
+        }
     }
     let calls: u32 = counts.values().sum();
     println!("{calls} calls of the library agree; of each number {counts:?}");
-    hold_floors(&counts);
+    println!("done, of each modulus number {done:?}");
+    hold_floors(&FLOORS, &counts);
+    hold_floors(&DONE, &done);
 }

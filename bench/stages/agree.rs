@@ -16,12 +16,15 @@ const FAULTS: u32 = 20;
 /// How many drawings are made.
 const DRAWINGS: u32 = 5000;
 
-/// Runs random jobs by both, the layouts in turn, and calls with faults; then draws masks. Stops where two
-/// outcomes differ.
+/// Runs random jobs by both, the layouts in turn and every fifth with the greatest elements, and calls with
+/// faults; then draws masks. Stops where two outcomes differ.
 pub fn check() {
     let mut random = Random::new(1);
     for i in 0..JOBS {
-        let work = draw(&mut random, i % 3 + 1);
+        let mut work = draw(&mut random, i % 3 + 1);
+        if i % 5 == 0 {
+            work.fill_with_greatest();
+        }
         let room = whole(&work);
         for _ in 0..FAULTS {
             let (mut work, mut room) = (work.clone(), room.clone());
@@ -38,7 +41,7 @@ pub fn check() {
 /// A random job in a layout. Layout 3 needs at least 13 answers, more than there are hosts with 13.
 fn draw(random: &mut Random, layout: u32) -> Work {
     loop {
-        let modulus = random.within(1, 3);
+        let modulus = random.within(1, 4);
         let shape = Shape {
             cuts: [0; 3].map(|_| random.within(1, 3)),
             groups: [0; 2].map(|_| random.within(1, 8)),
@@ -172,12 +175,13 @@ fn same_calls(random: &mut Random, work: &Work, room: &Room) {
 /// Draws masks by both, from words many of which are about the limit; the number of the refusal, or 0. A
 /// refused drawing leaves the masks as they were.
 fn same_drawing(random: &mut Random) -> u32 {
-    let modulus = random.within(0, 4);
-    let lowest = lowest_skipped(modulus.clamp(1, 3));
+    let modulus = random.within(0, 5);
+    let known = modulus.clamp(1, 4);
+    let lowest = lowest_skipped(known);
     let word = |random: &mut Random| match random.index(3) {
         0 => random.word(),
         1 => random.within(lowest - 2, u32::MAX),
-        _ => random.within(0, 2) + prime(modulus.clamp(1, 3)) - 1,
+        _ => random.within(0, 2) + prime(known) - 1,
     };
     let words: Vec<u32> = (0..random.index(40)).map(|_| word(random)).collect();
     let count = random.index(words.len() + 2);

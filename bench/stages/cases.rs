@@ -59,7 +59,7 @@ fn needed(shape: Shape) -> usize {
 pub fn every_stage() -> Vec<Row> {
     let mut rows = Vec::new();
     for stage in STAGES {
-        for modulus in 1..=3 {
+        for modulus in 1..=4 {
             let (shape, inner) = match modulus {
                 1 => (shape([2, 1, 2], 2, 12), 64),
                 _ => (shape([2, 2, 2], 2, 20), 32),
@@ -94,11 +94,11 @@ pub fn growth() -> Vec<Table> {
     vec![by_block(), by_cuts(), by_needed(), by_hosts()]
 }
 
-/// Rows of some stages modulo 257 and 65537, over some jobs.
+/// Rows of some stages modulo 257, 65537 and 2147483647, over some jobs.
 fn rows(stages: &[Stage], jobs: &[(Shape, u32)]) -> Vec<Row> {
     let mut rows = Vec::new();
     for &stage in stages {
-        for modulus in [2, 3] {
+        for modulus in [2, 3, 4] {
             let case = |&(shape, side)| Case {
                 modulus,
                 shape,

@@ -25,7 +25,7 @@ fn all_cases() -> Vec<(Stage, Case)> {
 }
 
 /// The modulus numbers of the masks that are drawn.
-const MODULI: [u32; 3] = [1, 2, 3];
+const MODULI: [u32; 4] = [1, 2, 3, 4];
 
 /// Times every case and every drawing and prints the times, a line each.
 pub fn print_times() {

@@ -34,7 +34,7 @@ pub struct Work {
 
 /// The prime of a modulus number.
 pub fn prime(modulus: u32) -> u32 {
-    [13, 257, 65537][modulus as usize - 1]
+    [13, 257, 65537, 2147483647][modulus as usize - 1]
 }
 
 /// Random elements below a prime.
@@ -93,6 +93,15 @@ impl Work {
         })
     }
 
+    /// Sets all elements of the matrices and masks to the greatest one.
+    pub fn fill_with_greatest(&mut self) {
+        let greatest = prime(self.job.modulus) - 1;
+        self.a.fill(greatest);
+        self.b.fill(greatest);
+        self.a_masks.fill(greatest);
+        self.b_masks.fill(greatest);
+    }
+
     /// The elements of an A block, of a B block and of an answer.
     pub fn counts(&self) -> [usize; 3] {
         let [rows, inner, columns] = self.block.map(|size| size as usize);
@@ -102,12 +111,12 @@ impl Work {
     /// A times B, worked out from the matrices.
     pub fn true_table(&self) -> Vec<u32> {
         let [s, r] = [self.job.s as usize, self.job.r as usize];
-        let q = u64::from(prime(self.job.modulus));
+        let q = u128::from(prime(self.job.modulus));
         let mut table = Vec::new();
         for row in self.a.chunks_exact(s) {
             table.extend((0..r).map(|j| {
                 let terms = row.iter().zip(self.b[j..].iter().step_by(r));
-                let sum: u64 = terms.map(|(&x, &y)| u64::from(x) * u64::from(y)).sum();
+                let sum: u128 = terms.map(|(&x, &y)| u128::from(x) * u128::from(y)).sum();
                 (sum % q) as u32
             }));
         }

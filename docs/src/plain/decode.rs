@@ -71,7 +71,7 @@ fn write_table<const Q: u32>(
             sums.fill(0);
             for (weights, (_, answer)) in weights.zip(answers) {
                 let part = &answer[i * columns..][..columns];
-                add_row(&mut sums, weights[k * across + j], part);
+                add_row::<Q>(&mut sums, weights[k * across + j], part);
             }
             reduce_row::<Q>(&sums, out);
         }
@@ -126,5 +126,6 @@ fn scale_of<const Q: u32>(x: u32, points: &[u32]) -> u32 {
     points
         .iter()
         .filter(|&&other| other != x)
-        .fold(1, |scale, &other| multiply::<Q>(scale, inverse::<Q>(x + Q - other)))
+        .map(|&other| inverse::<Q>((x + Q - other) % Q))
+        .fold(1, multiply::<Q>)
 }

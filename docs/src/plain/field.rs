@@ -7,6 +7,7 @@ pub fn prime(number: u32) -> Result<u32, u32> {
         1 => Ok(13),
         2 => Ok(257),
         3 => Ok(65537),
+        4 => Ok(2147483647),
         _ => Err(1),
     }
 }
@@ -17,7 +18,8 @@ macro_rules! with_prime {
         match $q {
             13 => $function::<13>($($argument),*),
             257 => $function::<257>($($argument),*),
-            _ => $function::<65537>($($argument),*),
+            65537 => $function::<65537>($($argument),*),
+            _ => $function::<2147483647>($($argument),*),
         }
     };
 }
@@ -46,7 +48,8 @@ pub fn power<const Q: u32>(x: u32, mut exponent: u32) -> u32 {
     result
 }
 
-/// The inverse of an element that is not 0, by Euclid's remainders.
+/// The inverse of an element that is not 0, by Euclid's remainders. No factor is farther from 0 than Q,
+/// so that i32 holds them all.
 pub fn inverse<const Q: u32>(a: u32) -> u32 {
     let (mut last, mut next) = (Q as i32, a as i32);
     let (mut last_factor, mut next_factor) = (0, 1);
@@ -72,10 +75,19 @@ pub fn big_endian(bytes: &[u8]) -> impl Iterator<Item = u32> + '_ {
         .map(|four| u32::from_be_bytes([four[0], four[1], four[2], four[3]]))
 }
 
+/// A product of two elements as a term of a sum. A u64 holds only four products modulo 2^31 − 1: there the
+/// digits in the base 2^31 are added, which is the same modulo Q and below 2^32.
+fn term<const Q: u32>(product: u64) -> u64 {
+    match Q {
+        2147483647 => (product & 0x7FFF_FFFF) + (product >> 31),
+        _ => product,
+    }
+}
+
 /// Adds a weight times a row to a row of sums.
-pub fn add_row(sums: &mut [u64], weight: u32, row: &[u32]) {
+pub fn add_row<const Q: u32>(sums: &mut [u64], weight: u32, row: &[u32]) {
     for (sum, &element) in sums.iter_mut().zip(row) {
-        *sum += u64::from(weight) * u64::from(element);
+        *sum += term::<Q>(u64::from(weight) * u64::from(element));
     }
 }
 

@@ -63,7 +63,7 @@ fn multiply_elements<const Q: u32>(
     let [_, inner, columns] = sizes.map(|size| size as usize);
     let mut sums = vec![0; columns];
     for (row, out) in a.chunks_exact(inner).zip(out.chunks_exact_mut(columns)) {
-        add_products(row, b, &mut sums);
+        add_products::<Q>(row, b, &mut sums);
         reduce_row::<Q>(&sums, out);
     }
     Ok(())
@@ -86,17 +86,17 @@ fn multiply_bytes<const Q: u32>(
         .chunks_exact(inner)
         .zip(out.chunks_exact_mut(4 * columns))
     {
-        add_products(row, &right, &mut sums);
+        add_products::<Q>(row, &right, &mut sums);
         write::<Q>(&sums, out);
     }
     Ok(())
 }
 
 /// The sums of one row of the product: to each, an element of the row times the rows of b is added.
-fn add_products(row: &[u32], b: &[u32], sums: &mut [u64]) {
+fn add_products<const Q: u32>(row: &[u32], b: &[u32], sums: &mut [u64]) {
     sums.fill(0);
     for (&weight, b_row) in row.iter().zip(b.chunks_exact(sums.len())) {
-        add_row(sums, weight, b_row);
+        add_row::<Q>(sums, weight, b_row);
     }
 }
 

@@ -118,11 +118,11 @@ fn share_rows<const Q: u32>(
         for (k, weights) in block_weights.chunks_exact(side.across).enumerate() {
             let row = &elements[(k * rows + i) * width..][..width];
             for (&weight, part) in weights.iter().zip(row.chunks_exact(columns)) {
-                add_row(&mut sums, weight, part);
+                add_row::<Q>(&mut sums, weight, part);
             }
         }
         for (&weight, mask) in mask_weights.iter().zip(masks.chunks_exact(rows * columns)) {
-            add_row(&mut sums, weight, &mask[i * columns..][..columns]);
+            add_row::<Q>(&mut sums, weight, &mask[i * columns..][..columns]);
         }
         reduce_row::<Q>(&sums, out);
     }
