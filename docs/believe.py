@@ -15,7 +15,12 @@ from pathlib import Path
 TOP = Path(__file__).resolve().parent.parent
 PAGE = TOP / "docs" / "BELIEVE.md"
 DEMANDS = [("promise", f"Demand{n}", f"Demand{n}") for n in (1, 2, 3)]
-REQUESTS = [("promise", "Retried", "RetriedUploads"), ("promise", "Layouts", "Layouts"), ("promise", "DrawnMasks", "DrawnMasks")]
+REQUESTS = [
+    ("promise", "Retried", "RetriedUploads"),
+    ("promise", "Layouts", "Layouts"),
+    ("promise", "DrawnMasks", "DrawnMasks"),
+    ("promise", "WholeNumbers", "DecodedNumbers"),
+]
 MOST_LINES = 560 + 20 * len(REQUESTS)
 RELATION = re.compile(r"[≡≤<↔≈]")
 
@@ -170,7 +175,7 @@ def page():
     text = [
         "# What must be believed",
         "",
-        "The three demands are the records `Demand1`, `Demand2` and `Demand3`; of the requests, U1 is the record `Retried`, U2 `Layouts` and U3 `DrawnMasks`",
+        "The three demands are the records `Demand1`, `Demand2` and `Demand3`; of the requests, U1 is the record `Retried`, U2 `Layouts`, U3 `DrawnMasks` and U4 `DecodedNumbers`",
         "(`crates/promise/specs`). Who wants to see that they say what the papers say reads the definitions and the statements below, each file after those that",
         "it uses, and needs nothing else. All else in `specs/` is how the code does it, in files named `Contracts`, or what is promised beside these. Everything",
         "in `proofs/` is checked by the prover.",

@@ -20,7 +20,9 @@ demand-3 = record {
 }
 
 pub decoded-numbers : DecodedNumbers
-decoded-numbers x ok ma mb masks-a masks-b store room before rest table exact enough true-first =
-    subst (WholeNumbers x)
-    (sym (demand-3 .yet x ok ma mb masks-a masks-b store room (before ++ (decoding table ∷ rest)) .exact before rest table refl exact enough true-first))
-    (whole-numbers x ok)
+decoded-numbers = record {
+  table = λ x ok ma mb masks-a masks-b store room before rest table exact enough true-first.
+      subst (WholeNumbers x)
+      (sym (demand-3 .yet x ok ma mb masks-a masks-b store room (before ++ (decoding table ∷ rest)) .exact before rest table refl exact enough true-first))
+      (whole-numbers x ok);
+}

@@ -49,11 +49,10 @@ pub record WholeNumbers (x : Task) (table : List ℕ) : Type 0 where
       → (u v : ℕ) → u < x .job .t → v < x .job .r
       → entry (x .job .r) table u v ≡ productEntry (x .job .s) (x .job .r) (x .a) (x .b) u v
 
-abbrev pub DecodedNumbers : Type 0
-DecodedNumbers =
-    (x : Task) → Accepted x → (ma mb : List ℕ) → Masks A x ma → Masks B x mb → (store : List ℕ) → length store ≡ storeLength (x .job)
-    → (before rest : List Call) (table : List ℕ) → length table ≡ tableLength (x .job)
-    → neededOf (x .job) ≤ size (hasFit x (begin store) before) (x .job .hosts)
-    → ((i : ℕ) → i < x .job .hosts → hasFit x (begin store) before i ≡ true
-    → firstFit x (begin store) before i ≡ trueProduct x (suc i) ma mb)
-    → WholeNumbers x (getD (replies x (begin store) (before ++ (decoding table ∷ rest))) (length before) unanswered .table)
+pub record DecodedNumbers : Type 0 where
+  pub table : (x : Task) → Accepted x → (ma mb : List ℕ) → Masks A x ma → Masks B x mb → (store : List ℕ)
+      → length store ≡ storeLength (x .job) → (before rest : List Call) (table : List ℕ) → length table ≡ tableLength (x .job)
+      → neededOf (x .job) ≤ size (hasFit x (begin store) before) (x .job .hosts)
+      → ((i : ℕ) → i < x .job .hosts → hasFit x (begin store) before i ≡ true
+      → firstFit x (begin store) before i ≡ trueProduct x (suc i) ma mb)
+      → WholeNumbers x (getD (replies x (begin store) (before ++ (decoding table ∷ rest))) (length before) unanswered .table)
