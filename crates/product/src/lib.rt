@@ -73,7 +73,8 @@ fn at_once(modulus: Modulus, inner: usize) -> usize
     2
 }
 
-// One row of the product, or two at once: then A's rows are packed, and the sums taken apart.
+// One row of the product, or two at once: then A's rows are packed, and the sums taken apart. That the prime is then small is
+// tested again: so the compiler knows it in the loops.
 fn few_rows(
     modulus: Modulus,
     count: usize,
@@ -92,7 +93,8 @@ fn few_rows(
     ensures { λ _. ⌜ now (out .exit)
         ≡ productOf (prime modulus) count inner (length (now (sums .entry))) (now (part .entry)) (now (b .entry)) ⌝ }
 {
-    if count < 2 {
+    let large = MOST_PACKED_PRIME < field::prime_of(modulus);
+    if (count < 2) | large {
         product_row(modulus, part, b, sums, out);
         return;
     }

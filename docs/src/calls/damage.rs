@@ -1,9 +1,10 @@
 //! Cases of reading a message that is damaged, or that has an output too short.
 
-use super::messages::{sized, FIELDS};
-use crate::cases::faults::{alone_and_in_pairs, border_elements, Expected, Fault};
+use super::messages::{of_other_moduli, sized, FIELDS};
+use crate::cases::draw::modulus_in_turn;
+use crate::cases::faults::{alone, alone_and_in_pairs, border_elements, Expected, Fault};
 use crate::sheet::message::{message, Fields, Reading, HEADER};
-use crate::sheet::plan::prime;
+use crate::sheet::plan::{known_prime, moduli, primes};
 use crate::sheet::random::Random;
 
 /// All cases whose refusal number is known from the way they are made.
@@ -38,7 +39,7 @@ pub fn computed(random: &mut Random) -> Vec<Reading> {
 
 /// A fit message with random elements, to be read into just 4096 elements.
 fn drawn(random: &mut Random, fields: Fields) -> Reading {
-    let q = prime(fields.modulus).expect("a modulus number");
+    let q = known_prime(fields.modulus);
     let elements = random.elements((fields.rows * fields.columns) as usize, q);
     reading(message(&fields, &elements))
 }
@@ -51,8 +52,8 @@ fn reading(message: Vec<u8>) -> Reading {
     }
 }
 
-/// The faults of a message of 2 by 4 elements over q = 257, in the order of the tests.
-const FAULTS: [Fault<Reading>; 33] = [
+/// The faults of a message of 2 by 4 elements, in the order of the tests.
+const FAULTS: [Fault<Reading>; 34] = [
     (13, |call| call.room = 4095),
     (13, |call| call.room = 0),
     (17, |call| call.message.truncate(15)),
@@ -66,7 +67,8 @@ const FAULTS: [Fault<Reading>; 33] = [
     (16, |call| call.message[5] = 0),
     (16, |call| call.message[5] = 4),
     (1, |call| call.message[6] = 0),
-    (1, |call| call.message[6] = 4),
+    (1, |call| call.message[6] = 5),
+    (1, |call| call.message[6] = 255),
     (12, |call| call.message[7] = 0),
     (12, |call| call.message[7] = 65),
     (2, |call| sizes(call, 0, 4)),
@@ -83,10 +85,17 @@ const FAULTS: [Fault<Reading>; 33] = [
     (20, |call| call.message.truncate(HEADER)),
     (20, |call| sizes(call, 3, 4)),
     (14, |call| call.message[16..20].fill(0xFF)),
-    (14, |call| call.message[18] = 2),
+    (14, |call| past_field(call, 0, 256)),
     (14, |call| call.message[36] = 0x80),
-    (14, |call| call.message[44..].copy_from_slice(&[0, 0, 1, 1])),
+    (14, |call| past_field(call, 7, 0)),
 ];
+
+/// Makes an element of a message, counted from 0, q and so much more.
+fn past_field(call: &mut Reading, index: usize, more: u32) {
+    let q = known_prime(call.message[6].into());
+    let at = HEADER + 4 * index;
+    call.message[at..at + 4].copy_from_slice(&(q + more).to_be_bytes());
+}
 
 /// Sets rows and columns in a message.
 fn sizes(call: &mut Reading, rows: u16, columns: u16) {
@@ -94,9 +103,13 @@ fn sizes(call: &mut Reading, rows: u16, columns: u16) {
     call.message[10..12].copy_from_slice(&columns.to_be_bytes());
 }
 
-/// Each fault alone and in pairs.
+/// Each fault alone and in pairs over q = 257, and each alone over the other primes.
 fn fault_pairs(random: &mut Random) -> Expected<Reading> {
-    alone_and_in_pairs(&drawn(random, FIELDS), &FAULTS)
+    let mut calls = alone_and_in_pairs(&drawn(random, FIELDS), &FAULTS);
+    for fields in of_other_moduli() {
+        calls.extend(alone(&drawn(random, fields), &FAULTS));
+    }
+    calls
 }
 
 /// Outputs around 4096 elements, for a fit message and for one that is no message at all.
@@ -169,14 +182,15 @@ fn versions(random: &mut Random) -> Expected<Reading> {
 /// Fields at and beyond the ends of their ranges; the message is too short for the large sizes.
 fn field_values(random: &mut Random) -> Expected<Reading> {
     let base = drawn(random, FIELDS).message;
-    let lines: [(usize, &[u8], u32); 24] = [
+    let lines: [(usize, &[u8], u32); 25] = [
         (5, &[1], 0),
         (5, &[0], 16),
         (5, &[4], 16),
         (5, &[255], 16),
         (6, &[3], 0),
+        (6, &[4], 0),
         (6, &[0], 1),
-        (6, &[4], 1),
+        (6, &[5], 1),
         (6, &[255], 1),
         (7, &[1], 0),
         (7, &[0], 12),
@@ -227,13 +241,12 @@ fn large_blocks(random: &mut Random) -> Expected<Reading> {
 /// Elements at the border of the field, for all moduli and kinds.
 fn elements(random: &mut Random) -> Expected<Reading> {
     let mut calls = Vec::new();
-    for modulus in 1..=3 {
+    for (modulus, q) in primes() {
         let fields = Fields {
-            kind: modulus,
+            kind: modulus % 3 + 1,
             modulus,
             ..FIELDS
         };
-        let q = prime(modulus).expect("a modulus number");
         let base = random.elements((fields.rows * fields.columns) as usize, q);
         for (elements, number) in border_elements(&base, q, 14) {
             calls.push((reading(message(&fields, &elements)), number));
@@ -274,7 +287,7 @@ fn every_byte(random: &mut Random) -> Vec<Reading> {
 /// Elements written with the lowest byte first: only zeros and palindromes read back.
 fn turned_elements(random: &mut Random) -> Vec<Reading> {
     let mut calls = Vec::new();
-    for modulus in 1..=3 {
+    for modulus in moduli() {
         for round in 0..4 {
             let mut call = drawn(random, Fields { modulus, ..FIELDS });
             if round == 0 {
@@ -292,10 +305,10 @@ fn turned_elements(random: &mut Random) -> Vec<Reading> {
 /// Messages with one random byte of the elements changed, and with any byte changed.
 fn random_damage(random: &mut Random) -> Vec<Reading> {
     let mut calls = Vec::new();
-    for round in 0..80 {
-        let modulus = round % 3 + 1;
+    for round in 0..100 {
+        let modulus = modulus_in_turn(round);
         let mut call = drawn(random, Fields { modulus, ..FIELDS });
-        let first = if round % 4 == 0 { 0 } else { HEADER };
+        let first = if round % 5 == 0 { 0 } else { HEADER };
         let at = first + random.index(call.message.len() - first);
         call.message[at] = random.byte();
         calls.push(call);

@@ -5,9 +5,10 @@
 //!   lowest_skipped  the lowest word that is skipped
 //!   mixed           words by chance
 
+use crate::cases::draw::modulus_in_turn;
 use crate::cases::faults::{Expected, NO_MODULUS};
 use crate::sheet::masks::{limit, Drawing, WORDS};
-use crate::sheet::plan::{moduli, prime};
+use crate::sheet::plan::{known_prime, primes};
 use crate::sheet::random::Random;
 
 /// All cases with the refusal numbers that are due.
@@ -32,8 +33,7 @@ pub type Marked = (u32, bool);
 
 /// Cases of each modulus, made from its number and its prime.
 fn over_moduli(mut made: impl FnMut(u32, u32) -> Expected<Drawing>) -> Expected<Drawing> {
-    let primes = moduli().map(|modulus| (modulus, prime(modulus).expect("a modulus number")));
-    primes.flat_map(|(modulus, q)| made(modulus, q)).collect()
+    primes().flat_map(|(modulus, q)| made(modulus, q)).collect()
 }
 
 /// A call that wants so many elements; it is refused exactly where fewer words are usable.
@@ -82,7 +82,8 @@ fn skipped(random: &mut Random, q: u32) -> Marked {
 }
 
 /// The drawings of 02, U3, and of its acceptance: [4294967295, 1, 9] gives 1 by two words, and the nine
-/// topmost words give nothing modulo 13.
+/// topmost words give nothing modulo 13. Modulo 2147483647 the two topmost words are skipped, and the
+/// one below them gives 2147483646.
 fn by_hand() -> Expected<Drawing> {
     let top = |below: u32| u32::MAX - below;
     let first = [(top(0), false), (1, true), (9, true)];
@@ -93,8 +94,16 @@ fn by_hand() -> Expected<Drawing> {
         (13, true),
         (top(9), true),
     ];
+    let third = [
+        (top(1), false),
+        (top(2), true),
+        (top(0), false),
+        (top(2), true),
+        (2147483647, true),
+    ];
     let mut cases: Expected<_> = (0..=3).map(|room| of(3, &first, room)).collect();
     cases.extend((0..=4).map(|room| of(1, &second, room)));
+    cases.extend((0..=4).map(|room| of(4, &third, room)));
     cases
 }
 
@@ -197,12 +206,11 @@ fn no_modulus(random: &mut Random) -> Expected<Drawing> {
 /// About 256 and 512 elements, the moduli in turn, with a run of skipped words at the places where a
 /// program may go on to the next part of the words; the runs are shorter and longer than a part.
 fn parts(random: &mut Random) -> Expected<Drawing> {
-    let numbers: Vec<u32> = moduli().collect();
     let mut cases = Vec::new();
     for count in [255_usize, 256, 257, 512, 513] {
         for (at, length) in [(0, 1), (254, 2), (255, 1), (256, 1), (257, 256), (count, 1)] {
-            let modulus = numbers[cases.len() % numbers.len()];
-            let q = prime(modulus).expect("a modulus number");
+            let modulus = modulus_in_turn(cases.len() as u32);
+            let q = known_prime(modulus);
             let mut words: Vec<Marked> = (0..count).map(|_| usable(random, q)).collect();
             let run: Vec<Marked> = (0..length).map(|_| skipped(random, q)).collect();
             let at = at.min(count);
@@ -214,11 +222,17 @@ fn parts(random: &mut Random) -> Expected<Drawing> {
 }
 
 /// Many elements, with some skipped words among those that they come from; 8192 elements are as many
-/// as a case has room for. One list has a usable word too few.
+/// as a case has room for. Two lists have a usable word too few.
 fn long(random: &mut Random) -> Expected<Drawing> {
     let mut cases = Vec::new();
-    for (modulus, room, usable) in [(1, 4096, 4096), (3, 8192, 8192), (2, 8192, 8191)] {
-        let lowest = lowest_skipped(prime(modulus).expect("a modulus number"));
+    for (modulus, room, usable) in [
+        (1, 4096, 4096),
+        (3, 8192, 8192),
+        (2, 8192, 8191),
+        (4, 4096, 4096),
+        (4, 4096, 4095),
+    ] {
+        let lowest = lowest_skipped(known_prime(modulus));
         let word = |_| (random.within(0, lowest - 1), true);
         let mut words: Vec<Marked> = (0..usable).map(word).collect();
         for at in [0, 1, usable / 2, usable - 1] {

@@ -1,8 +1,11 @@
 //! Cases of the two message calls: messages to write, fit and refused, and fit ones to read.
 
-use crate::cases::faults::{alone_and_in_pairs, border_elements, wrong_lengths, Expected, Fault};
+use crate::cases::draw::modulus_in_turn;
+use crate::cases::faults::{
+    alone, alone_and_in_pairs, border_elements, wrong_lengths, Expected, Fault,
+};
 use crate::sheet::message::{message, Fields, Reading, Writing, HEADER};
-use crate::sheet::plan::prime;
+use crate::sheet::plan::{known_prime, moduli, primes};
 use crate::sheet::random::Random;
 
 /// The fields from which other cases start.
@@ -38,9 +41,15 @@ pub fn sized(rows: u32, columns: u32) -> Fields {
     }
 }
 
+/// These fields with each other modulus number.
+pub fn of_other_moduli() -> impl Iterator<Item = Fields> {
+    let others = moduli().filter(|&modulus| modulus != FIELDS.modulus);
+    others.map(|modulus| Fields { modulus, ..FIELDS })
+}
+
 /// A call with exact lengths and random elements.
 fn drawn(random: &mut Random, fields: Fields) -> Writing {
-    let q = prime(fields.modulus).expect("a modulus number");
+    let q = known_prime(fields.modulus);
     let count = (fields.rows * fields.columns) as usize;
     Writing {
         fields,
@@ -53,7 +62,7 @@ fn drawn(random: &mut Random, fields: Fields) -> Writing {
 fn field_ends(random: &mut Random) -> Expected<Writing> {
     let mut calls = Vec::new();
     for kind in 1..=3 {
-        for modulus in 1..=3 {
+        for modulus in moduli() {
             for (host, job_number) in [(1, 0), (64, u32::MAX), (1, u32::MAX), (64, 0)] {
                 let [rows, columns] = [(); 2].map(|_| random.within(1, 3));
                 let fields = Fields {
@@ -71,12 +80,12 @@ fn field_ends(random: &mut Random) -> Expected<Writing> {
     calls
 }
 
-/// Random fields, most with few elements.
-fn random_fields(random: &mut Random) -> Fields {
+/// Random fields, most with few elements; the round decides on the modulus.
+fn random_fields(random: &mut Random, round: u32) -> Fields {
     let most = if random.within(0, 9) == 0 { 12 } else { 4 };
     Fields {
         kind: random.within(1, 3),
-        modulus: random.within(1, 3),
+        modulus: modulus_in_turn(round),
         host: random.within(1, 64),
         rows: random.within(1, most),
         columns: random.within(1, most),
@@ -87,15 +96,12 @@ fn random_fields(random: &mut Random) -> Fields {
 /// Random messages, and messages that end in the byte that fills an output before a call.
 fn random_fit(random: &mut Random) -> Expected<Writing> {
     let mut calls = Vec::new();
-    for _ in 0..60 {
-        let fields = random_fields(random);
+    for round in 0..80 {
+        let fields = random_fields(random, round);
         calls.push((drawn(random, fields), 0));
     }
-    for element in [0xA5, 0xA5A5] {
-        let fields = Fields {
-            modulus: 3,
-            ..FIELDS
-        };
+    for (modulus, element) in [(3, 0xA5), (3, 0xA5A5), (4, 0x25A5_A5A5)] {
+        let fields = Fields { modulus, ..FIELDS };
         let mut call = drawn(random, fields);
         call.elements.fill(element);
         calls.push((call, 0));
@@ -105,31 +111,26 @@ fn random_fit(random: &mut Random) -> Expected<Writing> {
 
 /// Blocks of 4096 elements.
 fn large_blocks(random: &mut Random) -> Expected<Writing> {
-    let blocks = [sized(64, 64), sized(1, 4096), sized(4096, 1)];
-    blocks
-        .map(|fields| {
-            (
-                drawn(
-                    random,
-                    Fields {
-                        modulus: 3,
-                        ..fields
-                    },
-                ),
-                0,
-            )
-        })
-        .to_vec()
+    let blocks = [(3, 64, 64), (3, 1, 4096), (3, 4096, 1), (4, 64, 64)];
+    let call = |(modulus, rows, columns)| {
+        let fields = sized(rows, columns);
+        (drawn(random, Fields { modulus, ..fields }), 0)
+    };
+    blocks.map(call).to_vec()
 }
 
-/// The faults of a message of 2 by 4 elements over q = 257, in the order of the tests.
-const FAULTS: [Fault<Writing>; 23] = [
+/// The faults of a message of 2 by 4 elements, in the order of the tests.
+const FAULTS: [Fault<Writing>; 27] = [
     (16, |call| call.fields.kind = 0),
     (16, |call| call.fields.kind = 4),
     (16, |call| call.fields.kind = 258),
     (1, |call| call.fields.modulus = 0),
-    (1, |call| call.fields.modulus = 4),
+    (1, |call| call.fields.modulus = 5),
+    (1, |call| call.fields.modulus = 255),
+    (1, |call| call.fields.modulus = 256),
     (1, |call| call.fields.modulus = 257),
+    (1, |call| call.fields.modulus = 260),
+    (1, |call| call.fields.modulus = u32::MAX),
     (12, |call| call.fields.host = 0),
     (12, |call| call.fields.host = 65),
     (12, |call| call.fields.host = u32::MAX),
@@ -147,13 +148,19 @@ const FAULTS: [Fault<Writing>; 23] = [
     (13, |call| call.room = 47),
     (13, |call| call.room = 49),
     (13, |call| call.room = 0),
-    (14, |call| call.elements[0] = 257),
+    (14, |call| {
+        call.elements[0] = known_prime(call.fields.modulus)
+    }),
     (14, |call| call.elements[6] = u32::MAX),
 ];
 
-/// Each fault alone and in pairs.
+/// Each fault alone and in pairs over q = 257, and each alone over the other primes.
 fn fault_pairs(random: &mut Random) -> Expected<Writing> {
-    alone_and_in_pairs(&drawn(random, FIELDS), &FAULTS)
+    let mut calls = alone_and_in_pairs(&drawn(random, FIELDS), &FAULTS);
+    for fields in of_other_moduli() {
+        calls.extend(alone(&drawn(random, fields), &FAULTS));
+    }
+    calls
 }
 
 /// Sizes at their limits, and one block of over 4096 elements with exact lengths.
@@ -201,8 +208,7 @@ fn lengths(random: &mut Random) -> Expected<Writing> {
 /// Elements at the border of the field, for all moduli.
 fn elements(random: &mut Random) -> Expected<Writing> {
     let mut calls = Vec::new();
-    for modulus in 1..=3 {
-        let q = prime(modulus).expect("a modulus number");
+    for (modulus, q) in primes() {
         let base = drawn(random, Fields { modulus, ..FIELDS });
         for (elements, number) in border_elements(&base.elements, q, 14) {
             let call = base.clone();

@@ -1,19 +1,23 @@
 //! The subcommand `calls`: gathers the cases of shares, products, messages, signed reading and masks,
 //! checks them, writes them with their outcomes.
 //!
-//!   shares    cases of shares
-//!   products  cases of products
-//!   messages  cases of messages to write, and of fit ones to read
-//!   damage    cases of damaged messages to read
-//!   signed    cases of signed reading and of its way back
-//!   masks     cases of masks to draw
-//!   format    the file format of cases and outcomes
+//!   shares        cases of shares that are fit
+//!   share_faults  cases of shares that are refused
+//!   products      cases of products
+//!   depths        cases of products and shares with the largest sums
+//!   messages      cases of messages to write, and of fit ones to read
+//!   damage        cases of damaged messages to read
+//!   signed        cases of signed reading and of its way back
+//!   masks         cases of masks to draw
+//!   format        the file format of cases and outcomes
 
 pub mod damage;
+pub mod depths;
 pub mod format;
 pub mod masks;
 pub mod messages;
 mod products;
+mod share_faults;
 pub mod shares;
 mod signed;
 
@@ -30,35 +34,38 @@ use crate::sheet::product::product;
 use crate::sheet::random::Random;
 use crate::sheet::share::{share, Side};
 use crate::sheet::signed::{signed_reading, way_back, SignedReading, WayBack};
+use crate::sheet::sums_check;
 use format::{case, number, outcome, Call};
 
 /// The numbers that each call can give, with the least count of cases.
 #[rustfmt::skip]
 const FLOORS: &Floors = &[
     ("share of A", &[
-        (0, 387), (1, 72), (2, 99), (3, 92), (4, 57), (5, 83), (6, 69), (7, 36), (8, 41), (9, 45),
-        (10, 31), (11, 14), (12, 29), (13, 69), (14, 20), (15, 16),
+        (0, 554), (1, 197), (2, 108), (3, 99), (4, 64), (5, 93), (6, 77), (7, 42), (8, 52), (9, 64),
+        (10, 59), (11, 27), (12, 36), (13, 80), (14, 38), (15, 34),
     ]),
     ("share of B", &[
-        (0, 378), (1, 73), (2, 97), (3, 94), (4, 58), (5, 86), (6, 69), (7, 38), (8, 38), (9, 47),
-        (10, 32), (11, 14), (12, 28), (13, 68), (14, 20), (15, 16),
+        (0, 553), (1, 195), (2, 106), (3, 101), (4, 68), (5, 90), (6, 78), (7, 44), (8, 47),
+        (9, 65), (10, 60), (11, 27), (12, 36), (13, 77), (14, 38), (15, 34),
     ]),
-    ("product", &[(0, 209), (1, 66), (2, 98), (6, 58), (13, 74), (14, 40)]),
-    ("write", &[(0, 107), (1, 54), (2, 46), (6, 29), (12, 45), (13, 37), (14, 14), (16, 63)]),
+    ("product", &[(0, 495), (1, 125), (2, 116), (6, 70), (13, 95), (14, 88)]),
+    ("write", &[(0, 159), (1, 147), (2, 58), (6, 38), (12, 54), (13, 52), (14, 32), (16, 84)]),
     ("read", &[
-        (0, 291), (1, 311), (2, 67), (6, 42), (12, 249), (13, 72), (14, 86), (16, 314), (17, 78),
-        (18, 135), (19, 378), (20, 111),
+        (0, 365), (1, 340), (2, 77), (6, 51), (12, 255), (13, 80), (14, 109), (16, 323), (17, 82),
+        (18, 148), (19, 391), (20, 132),
     ]),
-    ("signed reading", &[(0, 577), (1, 121), (14, 145)]),
-    ("way back", &[(0, 575), (1, 242), (25, 318)]),
-    ("masks", &[(0, 409), (1, 77), (27, 323)]),
+    ("signed reading", &[(0, 886), (1, 210), (14, 255)]),
+    ("way back", &[(0, 889), (1, 390), (25, 496)]),
+    ("masks", &[(0, 540), (1, 105), (27, 458)]),
 ];
 
 /// Checks the program, then writes the cases to one file and their outcomes to the other.
 pub fn write_files(stdin_file: &str, stdout_file: &str) {
     plan_check::run();
     masks_check::run();
+    sums_check::run();
     hand_values();
+    signed_values();
     let calls = gathered();
     calls.iter().for_each(reads_back);
     let cases: Vec<Vec<u8>> = calls.iter().map(case).collect();
@@ -79,17 +86,35 @@ fn hand_values() {
     assert_eq!(of(Side::A, 6, 0)[1], Ok(vec![6]));
     let answers = [(12, 0), (6, 9), (0, 5)].map(|(a, b)| product(&products::by_hand(a, b)));
     assert_eq!(answers, elements([0, 2, 0]));
-    let (modulus, element) = (1, 7);
-    assert_eq!(signed_reading(&SignedReading { modulus, element }), Ok(-6));
+}
+
+/// The signed reading of 01, "Checked by hand", and the ends of the range for q = 2147483647, both ways.
+fn signed_values() {
+    let reading = |modulus, element| signed_reading(&SignedReading { modulus, element });
+    let back = |modulus, value| way_back(&WayBack { modulus, value });
+    assert_eq!(reading(1, 7), Ok(-6));
+    assert_eq!(reading(4, 1073741823), Ok(1073741823));
+    assert_eq!(reading(4, 1073741824), Ok(-1073741823));
+    assert_eq!(reading(4, 2147483646), Ok(-1));
+    assert_eq!(reading(4, 2147483647), Err(14));
+    assert_eq!(reading(5, 0), Err(1));
+    assert_eq!(back(4, 1073741823), Ok(1073741823));
+    assert_eq!(back(4, -1073741823), Ok(1073741824));
+    assert_eq!(back(4, 1073741824), Err(25));
+    assert_eq!(back(4, -1073741824), Err(25));
+    assert_eq!(back(5, 0), Err(1));
 }
 
 /// All calls, each once. Shares and masks have generators of their own: no other call changes with them.
 fn gathered() -> Vec<Call> {
     let random = &mut Random::new(2027);
     let mut calls = expected(shares::expected(random), Call::Share);
+    calls.extend(expected(share_faults::expected(random), Call::Share));
+    calls.extend(expected(depths::shares(random), Call::Share));
     calls.extend(shares::computed(random).into_iter().map(Call::Share));
     let random = &mut Random::new(0x4f04_6e8f_6042_c196);
     calls.extend(expected(products::expected(random), Call::Product));
+    calls.extend(expected(depths::products(random), Call::Product));
     calls.extend(expected(messages::expected(random), Call::Write));
     calls.extend(expected(messages::fit_readings(random), Call::Read));
     calls.extend(expected(damage::expected(random), Call::Read));

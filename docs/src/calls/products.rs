@@ -1,7 +1,10 @@
 //! Cases of the product call: fit ones of every shape, and refused ones.
 
-use crate::cases::faults::{alone_and_in_pairs, border_elements, wrong_lengths, Expected, Fault};
-use crate::sheet::plan::prime;
+use crate::cases::draw::modulus_in_turn;
+use crate::cases::faults::{
+    alone, alone_and_in_pairs, border_elements, wrong_lengths, Expected, Fault,
+};
+use crate::sheet::plan::{known_prime, moduli, primes};
 use crate::sheet::product::Multiplying;
 use crate::sheet::random::Random;
 
@@ -40,8 +43,8 @@ fn checked_by_hand() -> Expected<Multiplying> {
 }
 
 /// A call with exact lengths and random elements.
-fn drawn(random: &mut Random, modulus: u32, sizes: [u32; 3]) -> Multiplying {
-    let q = prime(modulus).expect("a modulus number");
+pub fn drawn(random: &mut Random, modulus: u32, sizes: [u32; 3]) -> Multiplying {
+    let q = known_prime(modulus);
     let [rows, inner, columns] = sizes;
     Multiplying {
         modulus,
@@ -56,11 +59,11 @@ fn drawn(random: &mut Random, modulus: u32, sizes: [u32; 3]) -> Multiplying {
 
 /// Random products, the moduli in turn: many small ones and some larger.
 fn random_fit(random: &mut Random) -> Expected<Multiplying> {
-    (0..150)
+    (0..200)
         .map(|round| {
-            let most = if round % 10 == 0 { 17 } else { 6 };
+            let most = if round % 9 == 0 { 17 } else { 6 };
             let sizes = [0; 3].map(|_| random.within(1, most));
-            (drawn(random, round % 3 + 1, sizes), 0)
+            (drawn(random, modulus_in_turn(round), sizes), 0)
         })
         .collect()
 }
@@ -68,14 +71,13 @@ fn random_fit(random: &mut Random) -> Expected<Multiplying> {
 /// Both shares all 0, all q - 1 or random, for all moduli.
 fn fillings(random: &mut Random) -> Expected<Multiplying> {
     let mut calls = Vec::new();
-    for modulus in 1..=3 {
-        let most = prime(modulus).expect("a modulus number") - 1;
+    for (modulus, q) in primes() {
         for i in 0..9 {
             let mut call = drawn(random, modulus, [2, 3, 4]);
             for (share, way) in [(&mut call.a, i / 3), (&mut call.b, i % 3)] {
                 match way {
                     0 => share.fill(0),
-                    1 => share.fill(most),
+                    1 => share.fill(q - 1),
                     _ => {}
                 }
             }
@@ -96,12 +98,16 @@ fn large_blocks(random: &mut Random) -> Expected<Multiplying> {
         (3, [4096, 1, 1], false),
         (2, [1, 1, 4096], false),
         (3, [64, 1, 64], false),
+        (2, [1, 4096, 1], true),
+        (4, [64, 64, 64], true),
+        (4, [1, 4096, 1], false),
+        (4, [1, 1, 4096], true),
     ];
     let mut calls = Vec::new();
     for (modulus, sizes, greatest) in lines {
         let mut call = drawn(random, modulus, sizes);
         if greatest {
-            let q = prime(modulus).expect("a modulus number");
+            let q = known_prime(modulus);
             call.a.fill(q - 1);
             call.b.fill(q - 1);
         }
@@ -110,10 +116,12 @@ fn large_blocks(random: &mut Random) -> Expected<Multiplying> {
     calls
 }
 
-/// The faults of a product of 2 by 3 and 3 by 4 over q = 257, in the order of the tests.
-const FAULTS: [Fault<Multiplying>; 24] = [
+/// The faults of a product of 2 by 3 and 3 by 4, in the order of the tests.
+const FAULTS: [Fault<Multiplying>; 26] = [
     (1, |call| call.modulus = 0),
-    (1, |call| call.modulus = 4),
+    (1, |call| call.modulus = 5),
+    (1, |call| call.modulus = 255),
+    (1, |call| call.modulus = 256),
     (1, |call| call.modulus = u32::MAX),
     (2, |call| call.rows = 0),
     (2, |call| call.inner = 0),
@@ -132,15 +140,19 @@ const FAULTS: [Fault<Multiplying>; 24] = [
     (13, |call| call.room = 7),
     (13, |call| call.room = 9),
     (13, |call| call.room = 0),
-    (14, |call| call.a[0] = 257),
+    (14, |call| call.a[0] = known_prime(call.modulus)),
     (14, |call| call.a[4] = u32::MAX),
-    (14, |call| call.b[0] = 257),
+    (14, |call| call.b[0] = known_prime(call.modulus)),
     (14, |call| call.b[10] = u32::MAX),
 ];
 
-/// Each fault alone and in pairs.
+/// Each fault alone and in pairs over q = 257, and each alone over the other primes.
 fn fault_pairs(random: &mut Random) -> Expected<Multiplying> {
-    alone_and_in_pairs(&drawn(random, 2, [2, 3, 4]), &FAULTS)
+    let mut calls = alone_and_in_pairs(&drawn(random, 2, [2, 3, 4]), &FAULTS);
+    for modulus in moduli().filter(|&modulus| modulus != 2) {
+        calls.extend(alone(&drawn(random, modulus, [2, 3, 4]), &FAULTS));
+    }
+    calls
 }
 
 /// Blocks of over 4096 elements with exact lengths, and sizes at both sides of 16384.
@@ -196,8 +208,7 @@ fn lengths(random: &mut Random) -> Expected<Multiplying> {
 /// Elements at the border of the field, for all moduli.
 fn elements(random: &mut Random) -> Expected<Multiplying> {
     let mut calls = Vec::new();
-    for modulus in 1..=3 {
-        let q = prime(modulus).expect("a modulus number");
+    for (modulus, q) in primes() {
         for sizes in [[1, 1, 1], [3, 2, 2]] {
             let base = drawn(random, modulus, sizes);
             for (a, number) in border_elements(&base.a, q, 14) {

@@ -1,24 +1,33 @@
-//! Cases of the two share calls: fit ones of every shape, and refused ones.
+//! Cases of the two share calls that are fit, of every shape, and such with a number changed.
+//!
+//!   SIDES            the two sides
+//!   SMALL, EXAMPLE, LAYOUT_3
+//!                    a job in each layout
+//!   expected         all fit cases
+//!   computed         fit calls with a number changed
+//!   by_hand          a call of the smallest job
+//!   drawn            a call with random contents
+//!   distinct_points  random points
 
 use crate::cases::draw::{draw_in_layout, nudged, turn};
-use crate::cases::faults::{alone_and_in_pairs, border_elements, wrong_lengths, Expected, Fault};
-use crate::sheet::plan::{choose, prime, Job, Line};
+use crate::cases::faults::Expected;
+use crate::sheet::plan::{choose, known_prime, moduli, Job, Line};
 use crate::sheet::random::Random;
 use crate::sheet::share::{Shape, Sharing, Side};
 
 /// The two sides.
-const SIDES: [Side; 2] = [Side::A, Side::B];
+pub const SIDES: [Side; 2] = [Side::A, Side::B];
 
 /// A job with few hosts whose sizes all differ: layout 1, K = 9, blocks of A 2 by 3, of B 3 by 1.
-const SMALL: Line = [2, 4, 3, 2, 2, 1, 2, 2, 1, 10];
+pub const SMALL: Line = [2, 4, 3, 2, 2, 1, 2, 2, 1, 10];
 
 /// The cuts of document 000's worked example: layout 2, K = 24.
-const EXAMPLE: Line = [3, 4, 3, 2, 2, 3, 2, 2, 3, 25];
+pub const EXAMPLE: Line = [3, 4, 3, 2, 2, 3, 2, 2, 3, 25];
 
 /// A job in layout 3 whose sizes all differ: K = 26, blocks of A 1 by 2, of B 2 by 3.
-const LAYOUT_3: Line = [2, 2, 4, 6, 2, 2, 2, 5, 6, 27];
+pub const LAYOUT_3: Line = [2, 2, 4, 6, 2, 2, 2, 5, 6, 27];
 
-/// All cases whose refusal number is known from the way they are made.
+/// All fit cases, with 0 as the number that is due.
 pub fn expected(random: &mut Random) -> Expected<Sharing> {
     let groups = [
         checked_by_hand(),
@@ -28,12 +37,6 @@ pub fn expected(random: &mut Random) -> Expected<Sharing> {
         every_host(random),
         hosts_and_points(random),
         random_fit(random),
-        fault_pairs(random),
-        faults_in_layout_3(random),
-        lengths(random),
-        elements(random),
-        points(random),
-        large_plans(random),
     ];
     groups.concat()
 }
@@ -67,15 +70,10 @@ fn done(call: Sharing) -> (Sharing, u32) {
     (call, 0)
 }
 
-/// The prime of a call's modulus number.
-fn q_of(call: &Sharing) -> u32 {
-    prime(call.job.modulus).expect("a modulus number")
-}
-
 /// A call with points 1..N, exact lengths, and matrix and masks drawn at random.
-fn drawn(random: &mut Random, side: Side, line: Line, host: u32) -> Sharing {
+pub fn drawn(random: &mut Random, side: Side, line: Line, host: u32) -> Sharing {
     let job = Job::of_line(&line);
-    let q = prime(job.modulus).expect("a modulus number");
+    let q = known_prime(job.modulus);
     let shape = Shape::of(side, &job);
     Sharing {
         side,
@@ -92,13 +90,13 @@ fn drawn(random: &mut Random, side: Side, line: Line, host: u32) -> Sharing {
 /// Matrix and masks each all 0, all q - 1 or random, for all moduli.
 fn fillings(random: &mut Random) -> Expected<Sharing> {
     let mut calls = Vec::new();
-    for modulus in 1..=3 {
+    for modulus in moduli() {
         for i in 0..9 {
             for side in SIDES {
                 let mut line = SMALL;
                 line[0] = modulus;
                 let mut call = drawn(random, side, line, 1 + i);
-                let q = q_of(&call);
+                let q = known_prime(line[0]);
                 fill(&mut call.matrix, q, i / 3);
                 fill(&mut call.masks, q, i % 3);
                 calls.push(done(call));
@@ -141,25 +139,26 @@ fn cuts_of_one_element(random: &mut Random) -> Expected<Sharing> {
     calls
 }
 
-/// Blocks of 4096 elements: square, one row, one column, and two and four of them. Two calls
-/// have nothing but q - 1 in matrix and masks.
+/// Blocks of 4096 elements: square, one row, one column, and two and four of them; some calls have
+/// nothing but q - 1 in matrix and masks.
 fn large_blocks(random: &mut Random) -> Expected<Sharing> {
     let lines = [
-        (Side::A, [3, 64, 64, 64, 1, 1, 1, 1, 1, 3]),
-        (Side::B, [3, 64, 64, 64, 1, 1, 1, 1, 1, 3]),
-        (Side::B, [1, 64, 64, 64, 1, 1, 1, 1, 1, 12]),
-        (Side::A, [3, 1, 4096, 1, 1, 1, 1, 1, 1, 3]),
-        (Side::B, [2, 1, 4096, 1, 1, 1, 1, 1, 1, 3]),
-        (Side::A, [2, 4096, 1, 1, 1, 1, 1, 1, 1, 3]),
-        (Side::B, [3, 1, 1, 4096, 1, 1, 1, 1, 1, 3]),
-        (Side::A, [2, 128, 64, 1, 2, 1, 1, 1, 1, 13]),
-        (Side::B, [3, 1, 8192, 2, 1, 2, 2, 1, 1, 13]),
+        (Side::A, [3, 64, 64, 64, 1, 1, 1, 1, 1, 3], true),
+        (Side::B, [3, 64, 64, 64, 1, 1, 1, 1, 1, 3], true),
+        (Side::B, [1, 64, 64, 64, 1, 1, 1, 1, 1, 12], false),
+        (Side::A, [3, 1, 4096, 1, 1, 1, 1, 1, 1, 3], false),
+        (Side::B, [2, 1, 4096, 1, 1, 1, 1, 1, 1, 3], false),
+        (Side::A, [2, 4096, 1, 1, 1, 1, 1, 1, 1, 3], false),
+        (Side::B, [3, 1, 1, 4096, 1, 1, 1, 1, 1, 3], false),
+        (Side::A, [2, 128, 64, 1, 2, 1, 1, 1, 1, 13], false),
+        (Side::B, [3, 1, 8192, 2, 1, 2, 2, 1, 1, 13], false),
+        (Side::A, [4, 64, 64, 64, 1, 1, 1, 1, 1, 3], true),
     ];
     let mut calls = Vec::new();
-    for (i, (side, line)) in lines.into_iter().enumerate() {
+    for (side, line, greatest) in lines {
         let mut call = drawn(random, side, line, line[9]);
-        if i < 2 {
-            let q = q_of(&call);
+        if greatest {
+            let q = known_prime(line[0]);
             call.matrix.fill(q - 1);
             call.masks.fill(q - 1);
         }
@@ -175,13 +174,14 @@ fn every_host(random: &mut Random) -> Expected<Sharing> {
         [3, 2, 6, 4, 2, 3, 2, 8, 7, 38],
         [3, 4, 2, 6, 2, 2, 2, 5, 8, 28],
         [2, 6, 2, 2, 3, 2, 2, 9, 5, 38],
+        [4, 2, 4, 2, 2, 2, 2, 6, 5, 27],
     ];
     let mut calls = Vec::new();
     for line in lines {
         assert_eq!(choose(&Job::of_line(&line)).number, 3);
         for side in SIDES {
             let mut call = drawn(random, side, line, 1);
-            call.points = distinct_points(random, line[9], q_of(&call));
+            call.points = distinct_points(random, line[9], known_prime(line[0]));
             let of_host = |host| Sharing {
                 host,
                 ..call.clone()
@@ -197,10 +197,16 @@ fn every_host(random: &mut Random) -> Expected<Sharing> {
 fn hosts_and_points(random: &mut Random) -> Expected<Sharing> {
     let mut calls = Vec::new();
     for side in SIDES {
-        for line in [SMALL, EXAMPLE, LAYOUT_3, [1, 2, 2, 2, 1, 1, 2, 1, 1, 12]] {
+        for line in [
+            SMALL,
+            EXAMPLE,
+            LAYOUT_3,
+            [1, 2, 2, 2, 1, 1, 2, 1, 1, 12],
+            [4, 2, 3, 2, 2, 3, 1, 1, 2, 64],
+        ] {
             for host in [1, line[9]] {
                 let mut call = drawn(random, side, line, host);
-                let q = q_of(&call);
+                let q = known_prime(line[0]);
                 call.job_number = if host == 1 { 0 } else { u32::MAX };
                 calls.push(done(call.clone()));
                 call.points = (q - line[9]..q).rev().collect();
@@ -227,7 +233,7 @@ pub fn distinct_points(random: &mut Random, count: u32, q: u32) -> Vec<u32> {
 
 /// Random jobs, the moduli, the layouts and the sides in turn.
 fn random_fit(random: &mut Random) -> Expected<Sharing> {
-    (0..224)
+    (0..264)
         .map(|round| done(draw_fit(random, round)))
         .collect()
 }
@@ -246,195 +252,8 @@ fn draw_fit(random: &mut Random, round: u32) -> Sharing {
     line[9] = random.within(needed, most.min(needed + 4));
     let host = random.within(1, line[9]);
     let mut call = drawn(random, side, line, host);
-    call.points = distinct_points(random, line[9], q_of(&call));
+    call.points = distinct_points(random, line[9], known_prime(line[0]));
     call
-}
-
-/// The faults of a share of `SMALL`, or of its sizes with more hosts, in the order of the tests.
-const FAULTS: [Fault<Sharing>; 36] = [
-    (1, |call| call.job.modulus = 0),
-    (1, |call| call.job.modulus = 4),
-    (2, |call| call.job.t = 0),
-    (2, |call| call.job.s = 16385),
-    (2, |call| call.job.r = u32::MAX),
-    (3, |call| call.job.m = 0),
-    (3, |call| call.job.p = 9),
-    (3, |call| call.job.n = u32::MAX),
-    (4, |call| call.job.x_a = 0),
-    (4, |call| call.job.x_b = 17),
-    (5, |call| call.job.t = 5),
-    (5, |call| call.job.p = 2),
-    (5, |call| call.job.r = 3),
-    (6, |call| call.job.t = 2732),
-    (6, |call| call.job.r = 2732),
-    (6, |call| (call.job.t, call.job.r) = (130, 130)),
-    (7, |call| call.job.hosts = 0),
-    (7, |call| with_hosts(call, 65)),
-    (8, |call| call.job.hosts = 8),
-    (8, |call| with_hosts(call, 8)),
-    (9, |call| call.points.clear()),
-    (9, |call| call.points.truncate(9)),
-    (9, |call| call.points.push(11)),
-    (10, |call| call.points[0] = 0),
-    (10, |call| call.points[7] = 257),
-    (11, |call| call.points[7] = 3),
-    (12, |call| call.host = 0),
-    (12, |call| call.host = call.job.hosts + 1),
-    (12, |call| call.host = u32::MAX),
-    (13, |call| call.matrix.truncate(5)),
-    (13, |call| call.masks.push(0)),
-    (13, |call| call.room += 1),
-    (14, |call| call.matrix[0] = 257),
-    (14, |call| *last(&mut call.matrix) = u32::MAX),
-    (15, |call| call.masks[0] = 257),
-    (15, |call| *last(&mut call.masks) = u32::MAX),
-];
-
-/// Gives a call another number of hosts, with some of its points left out or more put in.
-fn with_hosts(call: &mut Sharing, hosts: u32) {
-    call.job.hosts = hosts;
-    call.points.truncate(hosts as usize);
-    call.points.extend(call.points.len() as u32 + 1..=hosts);
-}
-
-/// The last element of a list.
-fn last(elements: &mut [u32]) -> &mut u32 {
-    elements.last_mut().expect("an element")
-}
-
-/// Each fault alone and in pairs, for both sides.
-fn fault_pairs(random: &mut Random) -> Expected<Sharing> {
-    let bases = SIDES.map(|side| drawn(random, side, SMALL, 2));
-    bases
-        .iter()
-        .flat_map(|base| alone_and_in_pairs(base, &FAULTS))
-        .collect()
-}
-
-/// Each fault alone, for both sides of a job in layout 3 with the sizes of `SMALL`: K = 13 of 13 hosts.
-fn faults_in_layout_3(random: &mut Random) -> Expected<Sharing> {
-    let bases = SIDES.map(|side| drawn(random, side, [2, 4, 3, 2, 2, 1, 2, 3, 3, 13], 2));
-    let pairs = bases
-        .iter()
-        .flat_map(|base| FAULTS.map(|fault| (base, fault)));
-    pairs
-        .map(|(base, (number, fault))| {
-            let mut call = base.clone();
-            fault(&mut call);
-            (call, number)
-        })
-        .collect()
-}
-
-/// Matrix, masks and output of wrong lengths.
-fn lengths(random: &mut Random) -> Expected<Sharing> {
-    let mut calls = Vec::new();
-    for [side, other] in [[Side::A, Side::B], [Side::B, Side::A]] {
-        for line in [SMALL, EXAMPLE, LAYOUT_3] {
-            let base = drawn(random, side, line, line[9]);
-            let foreign = drawn(random, other, line, line[9]);
-            calls.extend(wrong_lists(&base, &foreign));
-            for room in [0, base.room - 1, base.room + 1, foreign.room, 4096, 8192] {
-                let call = base.clone();
-                calls.push((Sharing { room, ..call }, 13));
-            }
-        }
-    }
-    calls
-}
-
-/// A call with matrix or masks of wrong lengths, among them those of the other side.
-fn wrong_lists(base: &Sharing, foreign: &Sharing) -> Expected<Sharing> {
-    let mut calls = Vec::new();
-    for matrix in [wrong_lengths(&base.matrix), vec![foreign.matrix.clone()]].concat() {
-        let call = base.clone();
-        calls.push((Sharing { matrix, ..call }, 13));
-    }
-    for masks in [wrong_lengths(&base.masks), vec![foreign.masks.clone()]].concat() {
-        let call = base.clone();
-        calls.push((Sharing { masks, ..call }, 13));
-    }
-    calls
-}
-
-/// Elements at the border of the field, for all moduli.
-fn elements(random: &mut Random) -> Expected<Sharing> {
-    let mut calls = Vec::new();
-    for modulus in 1..=3 {
-        for side in SIDES {
-            let mut line = SMALL;
-            line[0] = modulus;
-            let base = drawn(random, side, line, 5);
-            let q = q_of(&base);
-            for (matrix, number) in border_elements(&base.matrix, q, 14) {
-                let call = base.clone();
-                calls.push((Sharing { matrix, ..call }, number));
-            }
-            for (masks, number) in border_elements(&base.masks, q, 15) {
-                let call = base.clone();
-                calls.push((Sharing { masks, ..call }, number));
-            }
-        }
-    }
-    calls
-}
-
-/// Points at the border of the field, repeated ones, and which of two bad points decides.
-fn points(random: &mut Random) -> Expected<Sharing> {
-    let lists: [(&[u32], u32); 12] = [
-        (&[12, 1, 7], 0),
-        (&[1, 2], 9),
-        (&[1, 2, 3, 4], 9),
-        (&[0, 0], 9),
-        (&[0, 1, 2], 10),
-        (&[1, 2, 0], 10),
-        (&[1, 13, 1], 10),
-        (&[1, 2, u32::MAX], 10),
-        (&[1, 14, 2], 10),
-        (&[5, 0, 5], 10),
-        (&[5, 5, 0], 11),
-        (&[7, 5, 7], 11),
-    ];
-    let mut calls = Vec::new();
-    for (list, number) in lists {
-        for side in SIDES {
-            let host = random.within(1, 3);
-            let mut call = by_hand(side, random.within(0, 12), random.within(0, 12), host);
-            call.points = list.to_vec();
-            calls.push((call, number));
-        }
-    }
-    calls
-}
-
-/// Plans whose other side or answer is too large, all lengths being right for the side that is
-/// shared, and plans at the limits of sizes, hosts and K.
-fn large_plans(random: &mut Random) -> Expected<Sharing> {
-    let lines = [
-        (Side::B, [2, 4097, 1, 1, 1, 1, 1, 1, 1, 3], 6),
-        (Side::A, [2, 1, 1, 4097, 1, 1, 1, 1, 1, 3], 6),
-        (Side::A, [3, 65, 1, 64, 1, 1, 1, 1, 1, 3], 6),
-        (Side::B, [3, 65, 1, 64, 1, 1, 1, 1, 1, 3], 6),
-        (Side::B, [3, 16384, 1, 1, 4, 1, 1, 1, 1, 9], 0),
-        (Side::A, [3, 1, 1, 16384, 1, 1, 4, 1, 1, 9], 0),
-        (Side::A, [1, 1, 1, 1, 1, 1, 1, 1, 1, 12], 0),
-        (Side::B, [1, 1, 1, 1, 1, 1, 1, 1, 1, 13], 7),
-        (Side::A, [1, 1, 1, 1, 1, 1, 1, 1, 1, 2], 8),
-        (Side::B, [2, 1, 1, 1, 1, 1, 1, 1, 1, 64], 0),
-        (Side::A, [2, 1, 1, 1, 1, 1, 1, 1, 1, 65], 7),
-        (Side::B, [2, 4, 3, 4, 4, 3, 4, 2, 2, 64], 8),
-        (Side::A, [3, 3, 2, 2, 3, 2, 2, 7, 7, 38], 0),
-        (Side::A, [3, 3, 2, 2, 3, 2, 2, 7, 7, 37], 0),
-        (Side::B, [3, 3, 2, 2, 3, 2, 2, 7, 7, 37], 0),
-        (Side::B, [3, 3, 2, 2, 3, 2, 2, 7, 7, 36], 8),
-        (Side::A, [2, 4, 4, 4, 2, 2, 2, 5, 5, 24], 8),
-        (Side::A, [2, 4, 4, 16386, 2, 2, 2, 5, 5, 25], 2),
-        (Side::B, [2, 16386, 4, 4, 2, 2, 2, 5, 5, 25], 2),
-    ];
-    lines
-        .into_iter()
-        .map(|(side, line, number)| (drawn(random, side, line, line[9]), number))
-        .collect()
 }
 
 /// All cases whose outcome is only computed: fit calls with a number of the job, or the host,

@@ -2,16 +2,21 @@
 //! ranges, random ones, and refused ones.
 
 use crate::cases::faults::{Expected, NO_MODULUS};
-use crate::sheet::plan::prime;
+use crate::sheet::plan::primes;
 use crate::sheet::random::Random;
 use crate::sheet::signed::{half, SignedReading, WayBack};
+
+/// Up to which prime there is a case for each element.
+const WHOLE: u32 = 257;
 
 /// All cases of signed reading with the refusal numbers that are due.
 pub fn readings(random: &mut Random) -> Expected<SignedReading> {
     let groups = [
-        over_moduli(&[1, 2, 3], element_borders),
-        over_moduli(&[1, 2], |q| (0..q).map(|element| (element, 0)).collect()),
-        over_moduli(&[3], |q| random_elements(random, q)),
+        over_moduli(element_borders),
+        over_moduli(|q| match q <= WHOLE {
+            true => all(0..q, 0),
+            false => random_elements(random, q),
+        }),
         elements_of_no_modulus(),
     ];
     let call = |(modulus, element, due)| (SignedReading { modulus, element }, due);
@@ -21,22 +26,24 @@ pub fn readings(random: &mut Random) -> Expected<SignedReading> {
 /// All cases of the way back with the refusal numbers that are due.
 pub fn ways_back(random: &mut Random) -> Expected<WayBack> {
     let groups = [
-        over_moduli(&[1, 2, 3], value_borders),
-        over_moduli(&[1, 2, 3], far_values),
-        over_moduli(&[1, 2], |q| range(q).map(|value| (value, 0)).collect()),
-        over_moduli(&[3], |q| random_values(random, q)),
+        over_moduli(value_borders),
+        over_moduli(far_values),
+        over_moduli(|q| match q <= WHOLE {
+            true => all(range(q), 0),
+            false => random_values(random, q),
+        }),
         values_of_no_modulus(),
     ];
     let call = |(modulus, value, due)| (WayBack { modulus, value }, due);
     groups.concat().into_iter().map(call).collect()
 }
 
-/// Inputs for some modulus numbers, made from the prime of each.
-fn over_moduli<T>(moduli: &[u32], mut made: impl FnMut(u32) -> Expected<T>) -> Vec<(u32, T, u32)> {
+/// Inputs for each modulus number, made from its prime.
+fn over_moduli<T>(mut made: impl FnMut(u32) -> Expected<T>) -> Vec<(u32, T, u32)> {
     let mut inputs = Vec::new();
-    for &modulus in moduli {
-        let list = made(prime(modulus).expect("a modulus number"));
-        inputs.extend(list.into_iter().map(|(input, due)| (modulus, input, due)));
+    for (modulus, q) in primes() {
+        let list = made(q).into_iter();
+        inputs.extend(list.map(|(input, due)| (modulus, input, due)));
     }
     inputs
 }
@@ -77,21 +84,23 @@ fn value_borders(q: u32) -> Expected<i64> {
     cases
 }
 
-/// The ends of 16, 32 and 64 bits with their neighbours, and values of which a narrower word would
-/// be in the range.
+/// Powers of two with their neighbours, most of them far outside the range, the ends of 64 bits, and
+/// values of which a narrower word would be in the range.
 fn far_values(q: u32) -> Expected<i64> {
-    let mut values = vec![i64::MIN, i64::MIN + 1, i64::MAX - 1, i64::MAX];
-    for power in [16, 31, 32, 48, 62] {
+    let h = i64::from(half(q));
+    let mut cases = Vec::new();
+    for power in [16, 30, 31, 32, 48, 62] {
         for size in (1 << power) - 1..=(1 << power) + 1 {
-            values.extend([size, -size]);
+            cases.extend(all([size, -size], if size > h { 25 } else { 0 }));
         }
     }
-    let h = i64::from(half(q));
+    let mut values = vec![i64::MIN, i64::MIN + 1, i64::MAX - 1, i64::MAX];
     for value in [-h, -1, 0, 1, h] {
         let moved = [1 << 32, -1 << 32, 1 << 62, i64::MIN];
         values.extend(moved.map(|far| value.wrapping_add(far)));
     }
-    all(values, 25)
+    cases.extend(all(values, 25));
+    cases
 }
 
 /// Random elements below q, and random words that are not.
@@ -113,14 +122,20 @@ fn random_values(random: &mut Random, q: u32) -> Expected<i64> {
 
 /// No modulus, with elements of each field and with words of none, which 14 would refuse.
 fn elements_of_no_modulus() -> Vec<(u32, u32, u32)> {
-    let elements = [0, 6, 7, 12, 13, 128, 257, 32768, 65536, 65537, u32::MAX];
+    #[rustfmt::skip]
+    let elements = [
+        0, 6, 7, 12, 13, 128, 257, 32768, 65536, 65537, 1 << 30, 2147483646, 2147483647, u32::MAX,
+    ];
     let cases = NO_MODULUS.map(|modulus| elements.map(|element| (modulus, element, 1)));
     cases.concat()
 }
 
 /// No modulus, with values of each range and with values of none, which 25 would refuse.
 fn values_of_no_modulus() -> Vec<(u32, i64, u32)> {
-    let sizes = [0, 1, 6, 7, 128, 129, 32768, 32769, 65537, 1 << 32, i64::MAX];
+    #[rustfmt::skip]
+    let sizes = [
+        0, 1, 6, 7, 128, 129, 32768, 32769, 65537, (1 << 30) - 1, 1 << 30, 1 << 32, i64::MAX,
+    ];
     let mut values = sizes.to_vec();
     values.extend(sizes.map(|size| -size));
     values.push(i64::MIN);

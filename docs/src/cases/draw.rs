@@ -1,27 +1,48 @@
 //! Random plans: cuts of a wanted kind, in each layout, and near misses.
 //!
-//!   turn            a modulus and a layout for a round
-//!   draw_cut        a random cut of a wanted kind
-//!   draw_in_layout  a random cut for which a layout is chosen
-//!   nudged          a line with a number changed
+//!   turn             a modulus and a layout for a round
+//!   turns            after how many rounds all of them have had their turn
+//!   modulus_in_turn  a modulus for a round
+//!   in_each_modulus  a line with each modulus number
+//!   draw_cut         a random cut of a wanted kind
+//!   draw_in_layout   a random cut for which a layout is chosen
+//!   nudged           a line with a number changed
 
-use crate::sheet::plan::{choose, Job, Line};
+use crate::sheet::plan::{choose, moduli, primes, Job, Line};
 use crate::sheet::random::Random;
 
-/// A modulus number and a layout for a round, all that go together in turn: layout 3 is never chosen
-/// with K below 13, and with q = 13 there are at most 12 hosts.
+/// The modulus numbers and layouts that go together: layout 3 is never chosen with K below 13, and with
+/// q = 13 there are at most 12 hosts.
+fn fit_pairs() -> Vec<(u32, u32)> {
+    let of_layout = |layout: u32| {
+        let fit = primes().filter(move |&(_, q)| layout < 3 || q > 13);
+        fit.map(move |(modulus, _)| (modulus, layout))
+    };
+    (1..=3).flat_map(of_layout).collect()
+}
+
+/// A modulus number and a layout for a round, all that go together in turn.
 pub fn turn(round: u32) -> (u32, u32) {
-    const TURNS: [(u32, u32); 8] = [
-        (1, 1),
-        (2, 1),
-        (3, 1),
-        (1, 2),
-        (2, 2),
-        (3, 2),
-        (2, 3),
-        (3, 3),
-    ];
-    TURNS[round as usize % TURNS.len()]
+    fit_pairs()[(round % turns()) as usize]
+}
+
+/// After how many rounds all of them have had their turn.
+pub fn turns() -> u32 {
+    fit_pairs().len() as u32
+}
+
+/// A modulus number for a round, all in turn.
+pub fn modulus_in_turn(round: u32) -> u32 {
+    round % moduli().end() + 1
+}
+
+/// A line with each modulus number.
+pub fn in_each_modulus(line: Line) -> impl Iterator<Item = Line> {
+    moduli().map(move |modulus| {
+        let mut changed = line;
+        changed[0] = modulus;
+        changed
+    })
 }
 
 /// A random cut of a wanted kind; every block holds one element.
@@ -29,7 +50,8 @@ pub fn draw_cut(random: &mut Random, wanted: impl Fn(&Job) -> bool) -> Line {
     loop {
         let [m, p, n] = [8; 3].map(|most| random.within(1, most));
         let [x_a, x_b] = [16; 2].map(|most| random.within(1, most));
-        let line = [random.within(2, 3), m, p, n, m, p, n, x_a, x_b, 64];
+        let modulus = random.within(2, *moduli().end());
+        let line = [modulus, m, p, n, m, p, n, x_a, x_b, 64];
         if wanted(&Job::of_line(&line)) {
             return line;
         }

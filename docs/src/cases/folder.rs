@@ -30,8 +30,9 @@ pub fn gathered(made: Vec<Case>, others: Vec<Vec<u8>>, printed: fn(&[u8]) -> Str
 }
 
 /// Writes each text to a file NNNN.in of a folder, and what must be printed for it to NNNN.out; prints
-/// how many there are of each kind. Panics unless their kinds are those given, by name.
-pub fn write(folder: &str, cases: &[Case], kind: fn(&str) -> String, kinds: &[&str]) {
+/// how many there are of each kind. Panics unless their kinds are those given, by name, and there are at
+/// least so many of each.
+pub fn write(folder: &str, cases: &[Case], kind: fn(&str) -> String, kinds: &[(&str, u32)]) {
     let mut counts: BTreeMap<String, u32> = BTreeMap::new();
     for (i, (text, due)) in cases.iter().enumerate() {
         save(&format!("{folder}/{i:04}.in"), text);
@@ -42,7 +43,11 @@ pub fn write(folder: &str, cases: &[Case], kind: fn(&str) -> String, kinds: &[&s
         println!("{kind}: {count}");
     }
     println!("texts: {}", cases.len());
-    assert!(counts.keys().eq(kinds.iter()), "other kinds");
+    let names = kinds.iter().map(|(kind, _)| kind);
+    assert!(counts.keys().eq(names), "other kinds");
+    for (kind, least) in kinds {
+        assert!(counts[*kind] >= *least, "{kind}: not {least} texts");
+    }
 }
 
 /// The words in capitals that a line begins with, in small letters.

@@ -6,13 +6,14 @@
 use super::draw_text::DrawText;
 use super::printed::drawn_lines;
 use crate::calls::masks::{lowest_skipped, mixed};
+use crate::cases::draw::modulus_in_turn;
 use crate::cases::faults::NO_MODULUS;
 use crate::cases::folder::Case;
 use crate::cases::forms::{forms, strewn};
 use crate::cases::tokens::{no_number, MARK};
 use crate::lister::malformed::damage;
 use crate::sheet::listing::refused;
-use crate::sheet::plan::{moduli, prime};
+use crate::sheet::plan::{known_prime, primes};
 use crate::sheet::random::Random;
 
 /// Texts that are drawn, or refused with 1 or 27.
@@ -49,6 +50,15 @@ fn told_by_hand() -> Vec<Case> {
         ("1 0 5 13", "# USED 0\n"),
         ("2 1 7 4294967295", "# USED 1\n7\n"),
         ("2 2 4294967294 4294967295 257", "# USED 3\n256\n0\n"),
+        ("4 1 4294967294 4294967293", "# USED 2\n2147483646\n"),
+        (
+            "4 3 4294967295 4294967293 4294967294 2147483647 2147483648",
+            "# USED 5\n2147483646\n0\n1\n",
+        ),
+        ("4 1 4294967294 4294967295", "REFUSED 27\n"),
+        ("4 0 4294967295", "# USED 0\n"),
+        ("5 0", "REFUSED 1\n"),
+        ("5 1 4294967293", "REFUSED 1\n"),
         ("0 0", "REFUSED 1\n"),
         ("0 1", "REFUSED 1\n"),
         ("1 1", "REFUSED 27\n"),
@@ -90,12 +100,12 @@ fn line_ends() -> Vec<Case> {
     cases
 }
 
-/// Up to nine words as `od` writes them, with a mark and without.
+/// Up to eleven words as `od` writes them, with a mark and without.
 fn by_od(random: &mut Random) -> Vec<Case> {
     let mut cases = Vec::new();
-    for count in 0..10 {
+    for count in 0..12 {
         let text = DrawText {
-            modulus: count % 3 + 1,
+            modulus: modulus_in_turn(count),
             wanted: count,
             words: random.elements(count as usize, u32::MAX - 8),
         };
@@ -110,8 +120,7 @@ fn by_od(random: &mut Random) -> Vec<Case> {
 /// For each modulus the words about 0, q and the limit, by themselves.
 fn about_limits() -> Vec<Case> {
     let mut cases = Vec::new();
-    for modulus in moduli() {
-        let q = prime(modulus).expect("a modulus number");
+    for (modulus, q) in primes() {
         let lowest = lowest_skipped(q);
         let drawn = [
             (0, 0),
@@ -136,8 +145,8 @@ fn no_modulus() -> Vec<Case> {
 
 /// Few words by chance, many of them about a limit or skipped.
 fn drawn_by_chance(random: &mut Random, round: u32) -> DrawText {
-    let modulus = round % moduli().count() as u32 + 1;
-    let q = prime(modulus).expect("a modulus number");
+    let modulus = modulus_in_turn(round);
+    let q = known_prime(modulus);
     let count = random.within(1, 20);
     let words = mixed(random, q, count, round % 5);
     DrawText {
@@ -153,7 +162,7 @@ fn by_chance(random: &mut Random) -> Vec<Case> {
         let text = drawn_by_chance(random, round);
         (strewn(random, &text.tokens()), text.due())
     };
-    (0..40).map(case).collect()
+    (0..48).map(case).collect()
 }
 
 /// Texts by chance with a byte changed.
@@ -162,5 +171,5 @@ pub fn changed(random: &mut Random) -> Vec<Vec<u8>> {
         let text = drawn_by_chance(random, round).column();
         damage(random, text)
     };
-    (0..40).map(text).collect()
+    (0..48).map(text).collect()
 }

@@ -10,7 +10,7 @@ use crate::calls::masks::lowest_skipped;
 use crate::cases::folder::Case;
 use crate::cases::forms::padded;
 use crate::sheet::listing::refused;
-use crate::sheet::plan::{moduli, prime};
+use crate::sheet::plan::primes;
 use crate::sheet::random::Random;
 
 /// How many words each list has, up to a few.
@@ -19,8 +19,7 @@ const MANY: u32 = 65_536;
 /// Texts with very many words.
 pub fn large(random: &mut Random) -> Vec<Case> {
     let mut cases = Vec::new();
-    for modulus in moduli() {
-        let q = prime(modulus).expect("a modulus number");
+    for (modulus, q) in primes() {
         cases.push(lowest_words(modulus, q));
         cases.extend(topmost_words(modulus, q));
         cases.extend(most_elements(random, modulus, q));

@@ -18,17 +18,12 @@ use crate::sheet::masks_check;
 use crate::sheet::random::Random;
 use printed::printed;
 
-/// The kinds of all that is printed; there must be a text for each.
-const KINDS: [&str; 9] = [
-    "drawn",
-    "expected",
-    "no number",
-    "none drawn",
-    "number too large",
-    "refused 1",
-    "refused 27",
-    "text too long",
-    "too many elements",
+/// The kinds of all that is printed, each with the least count of its texts.
+#[rustfmt::skip]
+const KINDS: [(&str, u32); 10] = [
+    ("drawn", 157), ("drawn above 65536", 23), ("expected", 20), ("no number", 147),
+    ("none drawn", 21), ("number too large", 32), ("refused 1", 38), ("refused 27", 40),
+    ("text too long", 16), ("too many elements", 14),
 ];
 
 /// Checks the program, then writes the texts and all that must be printed to a folder.
@@ -50,7 +45,14 @@ fn kind(printed: &str) -> String {
     match words[..] {
         ["REFUSED", number] => format!("refused {number}"),
         ["#", "USED", "0"] => "none drawn".into(),
+        ["#", "USED", _] if has_large_element(printed) => "drawn above 65536".into(),
         ["#", "USED", _] => "drawn".into(),
         _ => capitals(printed),
     }
+}
+
+/// Whether an element that is printed is above 65536: only the largest prime has such elements.
+fn has_large_element(printed: &str) -> bool {
+    let elements = printed.lines().skip(1).map(str::parse::<u32>);
+    elements.flatten().any(|element| element > 65536)
 }

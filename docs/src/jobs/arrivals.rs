@@ -3,14 +3,14 @@
 //!   expected  all of them
 //!   drawn     an arrival in which nothing is wrong
 
-use super::faults::{heard_before, limits, spoilt, HEARD, SMALL};
+use super::faults::{heard_before, limits, spoilt, spoilt_once, HEARD, LARGE, SMALL};
 use super::format::ALREADY_IN;
 use crate::calls::damage;
 use crate::calls::messages::FIELDS;
 use crate::cases::faults::{border_elements, Expected, Fault};
 use crate::sheet::job_call::{Act, JobCall};
-use crate::sheet::message::{message, Fields};
-use crate::sheet::plan::Line;
+use crate::sheet::message::{message, Fields, HEADER};
+use crate::sheet::plan::{known_prime, moduli, primes, Line};
 use crate::sheet::random::Random;
 use crate::sheet::whole_job::{written, WholeJob};
 
@@ -41,9 +41,9 @@ pub fn drawn(random: &mut Random, line: Line, host: u32) -> JobCall {
     call
 }
 
-/// The faults of an arrival of host 3 at `SMALL` that are no faults of its plan, in the order of
-/// the tests; the last, a message that is in already, is none.
-const FAULTS: [Fault<JobCall>; 28] = [
+/// The faults of an arrival of host 3 at `SMALL` or `LARGE` that are no faults of its plan, in the
+/// order of the tests; the last, a message that is in already, is none.
+const FAULTS: [Fault<JobCall>; 31] = [
     (21, |call| call.heard |= 1 << 10),
     (21, |call| call.heard = u64::MAX),
     (13, |call| call.store.truncate(79)),
@@ -54,7 +54,9 @@ const FAULTS: [Fault<JobCall>; 28] = [
     (18, |call| call.message[1] = 0x64),
     (19, |call| call.message[4] = 0),
     (16, |call| call.message[5] = 4),
-    (1, |call| call.message[6] = 4),
+    (1, |call| call.message[6] = 5),
+    (1, |call| call.message[6] = 0),
+    (1, |call| call.message[6] = 255),
     (12, |call| call.message[7] = 0),
     (12, |call| call.message[7] = 65),
     (2, |call| sizes(call, 0, 4)),
@@ -65,6 +67,7 @@ const FAULTS: [Fault<JobCall>; 28] = [
     (14, |call| call.message[6] = 1),
     (22, |call| call.message[5] = 1),
     (22, |call| call.message[6] = 3),
+    (22, other_modulus),
     (22, |call| sizes(call, 4, 2)),
     (22, |call| sizes(call, 1, 8)),
     (22, |call| call.message[15] ^= 1),
@@ -77,38 +80,52 @@ const FAULTS: [Fault<JobCall>; 28] = [
     (ALREADY_IN, heard_before),
 ];
 
+/// Makes the modulus number of a message 4 where it is 2, and 2 where it is 4.
+fn other_modulus(call: &mut JobCall) {
+    call.message[6] = 6 - call.message[6];
+}
+
 /// Sets rows and columns in a message.
 fn sizes(call: &mut JobCall, rows: u16, columns: u16) {
     call.message[8..10].copy_from_slice(&rows.to_be_bytes());
     call.message[10..12].copy_from_slice(&columns.to_be_bytes());
 }
 
-/// An arrival of host 3 at `SMALL`; some element is above 12, so that the message has 14 when its
-/// modulus is 13.
-fn third_host(random: &mut Random) -> JobCall {
-    let mut call = drawn(random, SMALL, 3);
-    call.message[30..32].copy_from_slice(&[0, 200]);
+/// An arrival of host 3 at `SMALL` or `LARGE`, with elements below 257; some element is above 12, so
+/// that the message has 14 when its modulus is 13, and is fit for all other moduli.
+fn third_host(random: &mut Random, line: Line) -> JobCall {
+    let mut call = drawn(random, line, 3);
+    let mut elements = random.elements(8, 257);
+    elements[3] = 200;
+    let bytes = elements.iter().flat_map(|element| element.to_be_bytes());
+    call.message.splice(HEADER.., bytes);
     call
 }
 
-/// Each fault alone and in pairs.
+/// Each fault alone and in pairs at `SMALL`, and alone at `LARGE`.
 fn fault_pairs(random: &mut Random) -> Expected<JobCall> {
-    let base = third_host(random);
-    let mut calls = spoilt(&base, &FAULTS);
-    calls.push((base, 0));
+    let bases = [SMALL, LARGE].map(|line| third_host(random, line));
+    let mut calls = spoilt(&bases[0], &FAULTS);
+    calls.extend(spoilt_once(&bases[1], &FAULTS));
+    calls.extend(bases.map(|base| (base, 0)));
     calls
 }
 
 /// Each fault that leaves message and store their lengths and the host one of the job's, and no
 /// fault: the host is heard, and its block holds the elements of that message, faulty ones too.
 fn faults_stored(random: &mut Random) -> Expected<JobCall> {
-    let base = third_host(random);
+    let bases = [SMALL, LARGE].map(|line| third_host(random, line));
+    bases.iter().flat_map(stored_with_faults).collect()
+}
+
+/// These arrivals, from one in which nothing is wrong.
+fn stored_with_faults(base: &JobCall) -> Expected<JobCall> {
     let lengths = |call: &JobCall| (call.message.len(), call.store.len());
     let mut calls = vec![(base.clone(), ALREADY_IN)];
     for (due, fault) in FAULTS.into_iter().filter(|fault| fault.0 < 23) {
         let mut call = base.clone();
         fault(&mut call);
-        if lengths(&call) == lengths(&base) && (1..=10).contains(&call.message[7]) {
+        if lengths(&call) == lengths(base) && (1..=10).contains(&call.message[7]) {
             calls.push((call, due));
         }
     }
@@ -149,41 +166,54 @@ fn due_of_fit(bytes: &[u8]) -> u32 {
     }
 }
 
-/// Fit messages that are not this job's, from hosts heard and not heard, with elements that both
-/// moduli allow and with some that only the message's own does; host numbers above N.
+/// Ways in which the fields of a message can be those of another job.
+const FOREIGN: [fn(&mut Fields); 12] = [
+    |fields| fields.kind = 1,
+    |fields| fields.kind = 2,
+    |fields| fields.job_number = 0,
+    |fields| fields.job_number = u32::MAX,
+    |fields| fields.job_number ^= 1 << 31,
+    |fields| fields.job_number ^= 1 << 16,
+    |fields| (fields.rows, fields.columns) = (4, 2),
+    |fields| (fields.rows, fields.columns) = (8, 1),
+    |fields| (fields.rows, fields.columns) = (1, 8),
+    |fields| fields.rows = 3,
+    |fields| fields.columns = 3,
+    |fields| (fields.rows, fields.columns) = (4, 8),
+];
+
+/// The fields of fit messages that are not this job's: another modulus, and all those ways.
+fn foreign_fields(own: Fields) -> Vec<Fields> {
+    let moduli = moduli().filter(|&modulus| modulus != own.modulus);
+    let mut others: Vec<Fields> = moduli.map(|modulus| Fields { modulus, ..own }).collect();
+    others.extend(FOREIGN.map(|change| {
+        let mut fields = own;
+        change(&mut fields);
+        fields
+    }));
+    others
+}
+
+/// Fit messages that are not this job's, from hosts heard and not heard and from host numbers above
+/// N, with any elements of the message's own field.
 fn foreign(random: &mut Random) -> Expected<JobCall> {
-    let base = drawn(random, SMALL, 3);
-    let own = Fields {
-        host: 3,
-        job_number: base.job_number,
-        ..FIELDS
-    };
-    let other: [fn(&mut Fields); 14] = [
-        |fields| fields.kind = 1,
-        |fields| fields.kind = 2,
-        |fields| fields.modulus = 1,
-        |fields| fields.modulus = 3,
-        |fields| fields.job_number = 0,
-        |fields| fields.job_number = u32::MAX,
-        |fields| fields.job_number ^= 1 << 31,
-        |fields| fields.job_number ^= 1 << 16,
-        |fields| (fields.rows, fields.columns) = (4, 2),
-        |fields| (fields.rows, fields.columns) = (8, 1),
-        |fields| (fields.rows, fields.columns) = (1, 8),
-        |fields| fields.rows = 3,
-        |fields| fields.columns = 3,
-        |fields| (fields.rows, fields.columns) = (4, 8),
-    ];
     let mut calls = Vec::new();
-    for change in other {
-        for host in [1, 3, 10, 11, 64] {
-            let mut fields = Fields { host, ..own };
-            change(&mut fields);
-            let q = if fields.modulus == 3 { 65537 } else { 13 };
-            let elements = random.elements((fields.rows * fields.columns) as usize, q);
-            let message = written(&fields, &elements);
-            let call = base.clone();
-            calls.push((JobCall { message, ..call }, 22));
+    for line in [SMALL, LARGE] {
+        let base = drawn(random, line, 3);
+        let own = Fields {
+            modulus: line[0],
+            job_number: base.job_number,
+            ..FIELDS
+        };
+        for other in foreign_fields(own) {
+            for host in [1, 3, 10, 11, 64] {
+                let fields = Fields { host, ..other };
+                let q = known_prime(fields.modulus);
+                let elements = random.elements((fields.rows * fields.columns) as usize, q);
+                let message = written(&fields, &elements);
+                let call = base.clone();
+                calls.push((JobCall { message, ..call }, 22));
+            }
         }
     }
     calls
@@ -218,7 +248,7 @@ fn lengths(random: &mut Random) -> Expected<JobCall> {
 /// Elements at the border of the field, for all moduli; a block all 0 and one all q - 1.
 fn elements(random: &mut Random) -> Expected<JobCall> {
     let mut calls = Vec::new();
-    for (modulus, q) in [(1, 13), (2, 257), (3, 65537)] {
+    for (modulus, q) in primes() {
         let mut line = SMALL;
         line[0] = modulus;
         let base = drawn(random, line, 3);

@@ -1,12 +1,12 @@
 //! Cases of decodings by themselves, each from hosts heard and a store of its own.
 
-use super::faults::{last_of, limits, spoilt, HEARD, SMALL};
+use super::faults::{last_of, limits, spoilt, spoilt_once, HEARD, LARGE, SMALL};
 use crate::calls::shares::distinct_points;
-use crate::cases::draw::{draw_in_layout, turn};
+use crate::cases::draw::{draw_in_layout, in_each_modulus, turn};
 use crate::cases::faults::{border_elements, Expected, Fault};
 use crate::sheet::decode::decode;
 use crate::sheet::job_call::{Act, JobCall};
-use crate::sheet::plan::{choose, prime, Job, Line};
+use crate::sheet::plan::{choose, known_prime, moduli, primes, Job, Line};
 use crate::sheet::random::Random;
 use crate::sheet::whole_job::WholeJob;
 
@@ -36,8 +36,8 @@ fn drawn(random: &mut Random, line: Line) -> JobCall {
     call
 }
 
-/// The faults of a decoding of `SMALL` with all ten heard that are no faults of its plan, in the
-/// order of the tests. Nine are needed, so host 10 is heard and not used; hosts 1 and 10 are still
+/// The faults of a decoding of `SMALL` or `LARGE` with all ten heard that are no faults of its plan, in
+/// the order of the tests. Nine are needed, so host 10 is heard and not used; hosts 1 and 10 are still
 /// heard where too few are.
 const FAULTS: [Fault<JobCall>; 15] = [
     (21, |call| call.heard |= 1 << 10),
@@ -51,17 +51,20 @@ const FAULTS: [Fault<JobCall>; 15] = [
     (24, |call| call.heard &= !0b11000),
     (24, |call| call.heard = 0b1000000001),
     (24, |call| call.heard = 0),
-    (14, |call| call.store[0] = 257),
+    (14, |call| call.store[0] = known_prime(call.job.modulus)),
     (14, |call| *last_of(&mut call.store[..72]) = u32::MAX),
-    (14, |call| call.store[72] = 257),
-    (14, |call| *last_of(&mut call.store[..80]) = 257),
+    (14, |call| call.store[72] = known_prime(call.job.modulus)),
+    (14, |call| {
+        *last_of(&mut call.store[..80]) = known_prime(call.job.modulus)
+    }),
 ];
 
-/// Each fault alone and in pairs.
+/// Each fault alone and in pairs at `SMALL`, and alone at `LARGE`.
 fn fault_pairs(random: &mut Random) -> Expected<JobCall> {
-    let base = drawn(random, SMALL);
-    let mut calls = spoilt(&base, &FAULTS);
-    calls.push((base, 0));
+    let bases = [SMALL, LARGE].map(|line| drawn(random, line));
+    let mut calls = spoilt(&bases[0], &FAULTS);
+    calls.extend(spoilt_once(&bases[1], &FAULTS));
+    calls.extend(bases.map(|base| (base, 0)));
     calls
 }
 
@@ -102,7 +105,7 @@ fn lengths(random: &mut Random) -> Expected<JobCall> {
 /// one that is heard and not used, and of one that is not heard.
 fn elements(random: &mut Random) -> Expected<JobCall> {
     let mut calls = Vec::new();
-    for (modulus, q) in [(1, 13), (2, 257), (3, 65537)] {
+    for (modulus, q) in primes() {
         let line = [modulus, 4, 3, 1, 2, 1, 1, 1, 2, 10];
         let base = drawn(random, line);
         assert_eq!(choose(&base.job).needed, 6);
@@ -154,7 +157,7 @@ fn heard_truly(random: &mut Random, whole: &WholeJob, heard: u64) -> (JobCall, u
 
 /// A job with random contents and points.
 fn draw_whole(random: &mut Random, line: Line) -> WholeJob {
-    let q = prime(line[0]).expect("a modulus number");
+    let q = known_prime(line[0]);
     let points = distinct_points(random, line[9], q);
     WholeJob::drawn(random, line, points)
 }
@@ -162,7 +165,7 @@ fn draw_whole(random: &mut Random, line: Line) -> WholeJob {
 /// Every group out of five hosts, three being needed.
 fn every_group(random: &mut Random) -> Expected<JobCall> {
     let mut calls = Vec::new();
-    for modulus in 1..=3 {
+    for modulus in moduli() {
         let whole = draw_whole(random, [modulus, 1, 2, 2, 1, 1, 1, 1, 1, 5]);
         assert_eq!(whole.needed, 3);
         calls.extend((0..32).map(|heard| heard_truly(random, &whole, heard)));
@@ -170,20 +173,18 @@ fn every_group(random: &mut Random) -> Expected<JobCall> {
     calls
 }
 
-/// Jobs in layout 3 over q = 257 and 65537, X_A equal to X_B, above it and below it: every number of
+/// Jobs in layout 3 over all primes but 13, X_A equal to X_B, above it and below it: every number of
 /// hosts is heard, from none to all.
 fn every_number(random: &mut Random) -> Expected<JobCall> {
     let lines = [
-        [4, 4, 4, 2, 2, 2, 5, 5, 26],
-        [4, 2, 2, 2, 2, 2, 6, 5, 28],
-        [2, 2, 4, 2, 2, 2, 5, 7, 28],
-        [3, 2, 2, 3, 2, 2, 7, 7, 38],
+        [2, 4, 4, 4, 2, 2, 2, 5, 5, 26],
+        [2, 4, 2, 2, 2, 2, 2, 6, 5, 28],
+        [2, 2, 2, 4, 2, 2, 2, 5, 7, 28],
+        [2, 3, 2, 2, 3, 2, 2, 7, 7, 38],
     ];
-    let lines = lines.map(|[t, s, r, m, p, n, x_a, x_b, hosts]| {
-        [2, 3].map(|modulus| [modulus, t, s, r, m, p, n, x_a, x_b, hosts])
-    });
+    let lines = lines.into_iter().flat_map(in_each_modulus);
     let mut calls = Vec::new();
-    for line in lines.concat() {
+    for line in lines.filter(|line| line[0] != 1) {
         let whole = draw_whole(random, line);
         assert_eq!(choose(&whole.job).number, 3);
         for count in 0..=line[9] as usize {
@@ -215,6 +216,8 @@ fn every_fit_group(random: &mut Random) -> Expected<JobCall> {
         [2, 4, 2, 2, 2, 2, 2, 6, 5, 27],
         [3, 2, 2, 2, 2, 2, 2, 5, 6, 27],
         [3, 2, 3, 2, 2, 3, 2, 8, 7, 39],
+        [4, 2, 1, 2, 2, 1, 2, 3, 3, 15],
+        [4, 2, 2, 2, 2, 2, 2, 6, 5, 27],
     ];
     let mut calls = Vec::new();
     for line in lines {
@@ -229,7 +232,7 @@ fn every_fit_group(random: &mut Random) -> Expected<JobCall> {
 
 /// Random jobs with any hosts heard, any elements as answers, and anything in the other blocks.
 fn any_answers(random: &mut Random) -> Expected<JobCall> {
-    (0..120).map(|round| any_answer(random, round)).collect()
+    (0..165).map(|round| any_answer(random, round)).collect()
 }
 
 /// One of these; the round decides on layout and modulus.

@@ -2,7 +2,9 @@
 //! jobs at the limits, numbers of hosts heard, and hosts heard with a message before.
 //!
 //!   SMALL         the job from which cases with faults start
-//!   spoilt        calls on it with faults put in, alone and in pairs
+//!   LARGE         the same job over the largest prime
+//!   spoilt        calls on SMALL with faults put in, alone and in pairs
+//!   spoilt_once   calls on LARGE with faults put in, each alone
 //!   limits        calls on jobs at the limits of a plan
 //!   HEARD         numbers of hosts heard
 //!   heard_before  an arrival's host is heard, and its message is in the store
@@ -10,19 +12,24 @@
 
 use super::format::BUFFER;
 use crate::calls::messages::{sized, FIELDS};
-use crate::cases::faults::{alone_and_in_pairs, Expected, Fault};
+use crate::cases::faults::{alone, alone_and_in_pairs, Expected, Fault};
 use crate::sheet::job_call::{Act, JobCall};
 use crate::sheet::message::{message, Fields, HEADER};
-use crate::sheet::plan::{Job, Line};
+use crate::sheet::plan::{known_prime, Job, Line};
 
 /// A job over q = 257: layout 1, K = 9 of 10 hosts, answers of 2 by 4 elements.
 pub const SMALL: Line = [2, 4, 3, 8, 2, 1, 2, 2, 1, 10];
 
-/// The faults of `SMALL`'s plan, in the order of the tests; the first of each number is tried
-/// together with others.
-const PLAN_FAULTS: [Fault<JobCall>; 28] = [
-    (1, |call| call.job.modulus = 4),
+/// The same job over q = 2147483647.
+pub const LARGE: Line = [4, 4, 3, 8, 2, 1, 2, 2, 1, 10];
+
+/// The faults of the plan of `SMALL`, and of `LARGE`, in the order of the tests; those of number 1 and
+/// the first of each other number are tried together with others.
+const PLAN_FAULTS: [Fault<JobCall>; 30] = [
+    (1, |call| call.job.modulus = 5),
     (1, |call| call.job.modulus = 0),
+    (1, |call| call.job.modulus = 255),
+    (1, |call| call.job.modulus = 256),
     (1, |call| call.job.modulus = u32::MAX),
     (2, |call| call.job.s = 16385),
     (2, |call| call.job.t = 0),
@@ -45,7 +52,7 @@ const PLAN_FAULTS: [Fault<JobCall>; 28] = [
     (9, |call| call.points.truncate(9)),
     (9, |call| call.points.push(11)),
     (9, |call| call.points.clear()),
-    (10, |call| call.points[7] = 257),
+    (10, |call| call.points[7] = known_prime(call.job.modulus)),
     (10, |call| call.points[0] = 0),
     (11, |call| call.points[9] = 3),
     (11, |call| (call.points[3], call.points[7]) = (2, 0)),
@@ -58,18 +65,16 @@ fn with_hosts(call: &mut JobCall, hosts: u32) {
     call.points.extend(call.points.len() as u32 + 1..=hosts);
 }
 
-/// Calls on `SMALL` with points 1..10: each fault of the plan alone, then one of each number and
-/// all faults of the call itself, alone and in pairs.
+/// Calls on `SMALL` with points 1..10: faults of the plan alone, then all faults of its modulus number,
+/// one of each other number and all faults of the call itself, alone and in pairs.
 pub fn spoilt(base: &JobCall, own: &[Fault<JobCall>]) -> Expected<JobCall> {
     let mut calls = Vec::new();
     let mut paired: Vec<Fault<JobCall>> = Vec::new();
     for fault in PLAN_FAULTS {
-        if paired.iter().any(|other| other.0 == fault.0) {
-            let mut call = base.clone();
-            (fault.1)(&mut call);
-            calls.push((call, fault.0));
-        } else {
-            paired.push(fault);
+        let is_first = paired.iter().all(|other| other.0 != fault.0);
+        match is_first || fault.0 == 1 {
+            true => paired.push(fault),
+            false => calls.extend(alone(base, &[fault])),
         }
     }
     paired.extend(own);
@@ -77,10 +82,15 @@ pub fn spoilt(base: &JobCall, own: &[Fault<JobCall>]) -> Expected<JobCall> {
     calls
 }
 
+/// Calls on `LARGE` with points 1..10: each fault of the plan and of the call itself alone.
+pub fn spoilt_once(base: &JobCall, own: &[Fault<JobCall>]) -> Expected<JobCall> {
+    [alone(base, &PLAN_FAULTS), alone(base, own)].concat()
+}
+
 /// Jobs at the limits of a plan, points 1..N, with the number that is due; those that are fit have
 /// answers of one element. The plan of the last four is accepted, but they need a longer store
 /// than a case can give.
-const LIMITS: [(Line, u32); 25] = [
+const LIMITS: [(Line, u32); 31] = [
     ([1, 1, 1, 1, 1, 1, 1, 1, 1, 12], 0),
     ([1, 1, 1, 1, 1, 1, 1, 1, 1, 13], 7),
     ([1, 1, 1, 1, 1, 1, 1, 1, 1, 3], 0),
@@ -102,6 +112,12 @@ const LIMITS: [(Line, u32); 25] = [
     ([3, 8, 8, 8, 8, 8, 8, 16, 16, 64], 8),
     ([3, 9, 8, 8, 9, 8, 8, 16, 16, 64], 3),
     ([3, 1, 1, 1, 1, 1, 1, 16, 17, 64], 4),
+    ([4, 1, 1, 1, 1, 1, 1, 1, 1, 64], 0),
+    ([4, 1, 1, 1, 1, 1, 1, 1, 1, 65], 7),
+    ([4, 1, 1, 1, 1, 1, 1, 1, 1, 2], 8),
+    ([4, 1, 16384, 1, 1, 4, 1, 1, 1, 9], 0),
+    ([4, 1, 4097, 1, 1, 1, 1, 1, 1, 3], 6),
+    ([5, 1, 1, 1, 1, 1, 1, 1, 1, 64], 1),
     ([3, 64, 64, 64, 1, 1, 1, 1, 1, 64], 13),
     ([3, 16384, 1, 1, 4, 1, 1, 1, 1, 9], 13),
     ([3, 1, 1, 16384, 1, 1, 4, 1, 1, 9], 13),

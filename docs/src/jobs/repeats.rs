@@ -8,10 +8,11 @@ use super::faults::{heard_before, SMALL};
 use super::format::ALREADY_IN;
 use super::stories::{answers_otherwise, draw_small};
 use super::story::Story;
+use crate::cases::draw::turns;
 use crate::cases::faults::Expected;
 use crate::sheet::job_call::JobCall;
 use crate::sheet::message::HEADER;
-use crate::sheet::plan::{prime, Line};
+use crate::sheet::plan::{primes, Line};
 use crate::sheet::random::Random;
 use crate::sheet::whole_job::WholeJob;
 
@@ -37,15 +38,14 @@ fn repeated(random: &mut Random, line: Line, host: u32) -> JobCall {
 /// each bit that leaves it below q.
 fn other_messages(random: &mut Random) -> Expected<JobCall> {
     let mut calls = Vec::new();
-    for modulus in 1..=3 {
-        let q = prime(modulus).expect("a modulus number");
+    for (modulus, q) in primes() {
         let mut line = SMALL;
         line[0] = modulus;
         let base = repeated(random, line, 3);
         let block = base.store[base.block(3)].to_vec();
         calls.push((base.clone(), ALREADY_IN));
         for (i, &element) in block.iter().enumerate() {
-            let bits = (0..17).map(|bit| element ^ 1 << bit).filter(|&x| x < q);
+            let bits = (0..32).map(|bit| element ^ 1 << bit).filter(|&x| x < q);
             for other in bits.chain([(element + 1) % q, (element + q - 1) % q]) {
                 let mut call = base.clone();
                 call.message[HEADER + 4 * i..][..4].copy_from_slice(&other.to_be_bytes());
@@ -61,8 +61,7 @@ fn other_messages(random: &mut Random) -> Expected<JobCall> {
 /// whatever its block holds.
 fn other_blocks(random: &mut Random) -> Expected<JobCall> {
     let mut calls = Vec::new();
-    for modulus in 1..=3 {
-        let q = prime(modulus).expect("a modulus number");
+    for (modulus, q) in primes() {
         let base = repeated(random, [modulus, 1, 1, 2, 1, 1, 1, 1, 1, 5], 2);
         calls.push((base.clone(), ALREADY_IN));
         for at in base.block(2) {
@@ -90,8 +89,7 @@ fn other_blocks(random: &mut Random) -> Expected<JobCall> {
 /// all but one others; and blocks and messages all 0 or all q - 1.
 fn whole_blocks(random: &mut Random) -> Expected<JobCall> {
     let mut calls = Vec::new();
-    for modulus in 1..=3 {
-        let q = prime(modulus).expect("a modulus number");
+    for (modulus, q) in primes() {
         let mut line = SMALL;
         line[0] = modulus;
         let base = repeated(random, line, 10);
@@ -148,7 +146,7 @@ fn places(random: &mut Random) -> Expected<JobCall> {
 /// All stories: jobs with few hosts, the moduli and the layouts in turn.
 pub fn told(random: &mut Random) -> Vec<JobCall> {
     let mut calls = Vec::new();
-    for round in 0..8 {
+    for round in 0..turns() {
         let whole = draw_small(random, round);
         calls.extend(sent_again(random, &whole, true));
         calls.extend(sent_again(random, &whole, false));

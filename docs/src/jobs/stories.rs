@@ -9,10 +9,10 @@
 use super::format::BUFFER;
 use super::story::Story;
 use crate::calls::shares::distinct_points;
-use crate::cases::draw::{draw_in_layout, turn};
+use crate::cases::draw::{draw_in_layout, modulus_in_turn, turn, turns};
 use crate::sheet::job_call::{Act, JobCall};
 use crate::sheet::message::{message, Fields};
-use crate::sheet::plan::{choose, prime, Job, Line};
+use crate::sheet::plan::{choose, known_prime, primes, Job, Line};
 use crate::sheet::random::Random;
 use crate::sheet::whole_job::{Contents, WholeJob};
 
@@ -62,7 +62,7 @@ fn checked_by_hand(random: &mut Random) -> Vec<JobCall> {
 /// Jobs with few hosts, the moduli and the layouts in turn; in each fifth two hosts are false.
 fn small_jobs(random: &mut Random) -> Vec<JobCall> {
     let mut calls = Vec::new();
-    for round in 0..96 {
+    for round in 0..110 {
         let whole = draw_small(random, round);
         let liars = if round % 5 == 1 { 2 } else { 0 };
         calls.extend(disturbed(random, &whole, liars, 24));
@@ -73,7 +73,7 @@ fn small_jobs(random: &mut Random) -> Vec<JobCall> {
 /// A random job with few hosts; the round decides on modulus, layout and the kind of points.
 pub fn draw_small(random: &mut Random, round: u32) -> WholeJob {
     let line = small_line(random, round);
-    let points = draw_points(random, line, round / 8);
+    let points = draw_points(random, line, round / turns());
     WholeJob::drawn(random, line, points)
 }
 
@@ -99,7 +99,7 @@ pub fn small_line(random: &mut Random, round: u32) -> Line {
 
 /// Points of a job: 1..N, the highest downwards, a run from anywhere, and scattered ones.
 pub fn draw_points(random: &mut Random, line: Line, kind: u32) -> Vec<u32> {
-    let (hosts, q) = (line[9], prime(line[0]).expect("a modulus number"));
+    let (hosts, q) = (line[9], known_prime(line[0]));
     let first = random.within(1, q - hosts);
     match kind % 6 {
         0 => (1..=hosts).collect(),
@@ -192,7 +192,7 @@ const DAMAGES: [(u32, fn(&mut Vec<u8>)); 21] = [
     (16, |bytes| bytes[5] = 0),
     (16, |bytes| bytes[5] = 4),
     (1, |bytes| bytes[6] = 0),
-    (1, |bytes| bytes[6] = 4),
+    (1, |bytes| bytes[6] = 5),
     (12, |bytes| bytes[7] = 0),
     (12, |bytes| bytes[7] = 65),
     (2, |bytes| bytes[8..10].fill(0)),
@@ -202,7 +202,7 @@ const DAMAGES: [(u32, fn(&mut Vec<u8>)); 21] = [
     (20, |bytes| bytes.truncate(16)),
     (20, |bytes| bytes.push(0)),
     (20, |bytes| bytes.extend([0; 4])),
-    (14, |bytes| bytes[16] = 1),
+    (14, |bytes| bytes[16] = 0x80),
     (14, |bytes| {
         bytes.iter_mut().rev().take(4).for_each(|byte| *byte = 0xFF)
     }),
@@ -227,7 +227,7 @@ fn foreign(random: &mut Random, story: &mut Story) {
         0 => fields.kind = random.within(1, 2),
         1 => fields.job_number = own.job_number.wrapping_add(1),
         2 => fields.job_number = own.job_number.swap_bytes() ^ 1,
-        3 => fields.modulus = own.modulus % 3 + 1,
+        3 => fields.modulus = modulus_in_turn(own.modulus),
         4 if rows != columns => (fields.rows, fields.columns) = (columns, rows),
         5 => fields.columns = columns + 1,
         _ => fields.rows = rows + 1,
@@ -309,6 +309,10 @@ fn large_groups(random: &mut Random) -> Vec<JobCall> {
         [2, 4, 2, 2, 2, 2, 2, 5, 6, 28],
         [3, 2, 3, 4, 2, 3, 2, 7, 8, 38],
         [2, 2, 5, 4, 2, 5, 2, 14, 11, 64],
+        [4, 4, 4, 4, 2, 2, 2, 2, 2, 20],
+        [4, 2, 3, 1, 1, 1, 1, 16, 16, 40],
+        [4, 3, 2, 4, 3, 2, 2, 7, 7, 38],
+        [4, 8, 6, 1, 8, 6, 1, 1, 1, 64],
     ];
     let mut calls = Vec::new();
     for (i, line) in lines.into_iter().enumerate() {
@@ -323,8 +327,7 @@ fn large_groups(random: &mut Random) -> Vec<JobCall> {
 /// their range; every point of q = 13 is used.
 fn fillings(random: &mut Random) -> Vec<JobCall> {
     let mut calls = Vec::new();
-    for modulus in 1..=3 {
-        let q = prime(modulus).expect("a modulus number");
+    for (modulus, q) in primes() {
         for (round, job_number) in (0..).zip([0, 1, 1 << 31, u32::MAX]) {
             let line = [modulus, 4, 2, 3, 2, 1, 1, 1, 2, 12];
             let [matrix, mask] = [round / 2, round % 2].map(|way| way * (q - 1));
@@ -351,6 +354,7 @@ fn large_blocks(random: &mut Random) -> Vec<JobCall> {
         [3, 1, 16384, 1, 1, 4, 1, 1, 1, 10],
         [1, 2, 8192, 1, 1, 4, 1, 1, 1, 9],
         [3, 64, 1, 64, 1, 1, 1, 1, 1, 3],
+        [4, 32, 3, 32, 1, 1, 1, 1, 1, 4],
     ];
     let mut calls = Vec::new();
     for line in lines {

@@ -28,20 +28,29 @@ const LAYOUT_3_REPLY: &str = "MODULUS 257\nLAYOUT 3\nHOSTS 25\nNEEDED 25\n\
 /// The numbers that the lister can give, with the least count of cases.
 #[rustfmt::skip]
 const FLOORS: &Floors = &[
-    ("layout 1", &[(0, 251)]),
-    ("layout 2", &[(0, 133)]),
-    ("layout 3", &[(0, 540)]),
+    ("layout 1", &[(0, 259)]),
+    ("layout 2", &[(0, 134)]),
+    ("layout 3", &[(0, 545)]),
     ("refused", &[
-        (1, 46), (2, 45), (3, 44), (4, 33), (5, 50), (6, 33), (7, 33), (8, 295), (26, 193),
+        (1, 67), (2, 50), (3, 50), (4, 35), (5, 50), (6, 36), (7, 42), (8, 301), (26, 194),
     ]),
 ];
+
+/// The replies that the papers have: the sheet's example, also with the modulus number of 02, U4, and
+/// 02's case in layout 3.
+fn told_replies() {
+    assert_eq!(reply(b"2 4 4 4 2 2 2 2 2 20\n"), EXAMPLE_REPLY);
+    let large = EXAMPLE_REPLY.replace("MODULUS 257\n", "MODULUS 2147483647\n");
+    assert_eq!(reply(b"4 4 4 4 2 2 2 2 2 20\n"), large);
+    assert_eq!(reply(b"5 4 4 4 2 2 2 2 2 20\n"), refused(1));
+    assert_eq!(reply(b"2 4 4 4 2 2 2 5 5 25\n"), LAYOUT_3_REPLY);
+    assert_eq!(reply(b"2 4 4 4 2 2 2 5 5 24\n"), refused(8));
+}
 
 /// Checks the program, then writes the cases to one file and the replies to the other.
 pub fn write_files(stdin_file: &str, stdout_file: &str) {
     plan_check::run();
-    assert_eq!(reply(b"2 4 4 4 2 2 2 2 2 20\n"), EXAMPLE_REPLY);
-    assert_eq!(reply(b"2 4 4 4 2 2 2 5 5 25\n"), LAYOUT_3_REPLY);
-    assert_eq!(reply(b"2 4 4 4 2 2 2 5 5 24\n"), refused(8));
+    told_replies();
     let inputs = gathered();
     let replies: Vec<String> = inputs.iter().map(|input| reply(input)).collect();
     inputs.iter().for_each(|input| reads_back(input));

@@ -8,9 +8,9 @@
 //!   expected      all cases whose reply kind is known from the way they are made
 //!   computed      all cases whose reply is only computed
 
-use crate::cases::draw::{draw_in_layout, nudged};
+use crate::cases::draw::{draw_in_layout, in_each_modulus, nudged};
 use crate::sheet::listing::{reply, text};
-use crate::sheet::plan::{choose, refusal, Job, Line};
+use crate::sheet::plan::{choose, moduli, refusal, Job, Line};
 use crate::sheet::plan_check::all_cuts;
 use crate::sheet::random::Random;
 
@@ -97,6 +97,12 @@ fn checked_by_hand() -> Vec<Expected> {
         (with(SMALLEST, HOSTS, 13), 7),
         ([2, 2, 3, 2, 2, 3, 2, 2, 3, 24], 0),
         ([2, 2, 3, 2, 2, 3, 2, 2, 3, 23], 8),
+        (with(EXAMPLE, MODULUS, 4), 0),
+        (with(EXAMPLE, MODULUS, 5), 1),
+        (with(SMALLEST, MODULUS, 4), 0),
+        (with(SMALLEST, MODULUS, 5), 1),
+        ([4, 3, 2, 2, 3, 2, 2, 7, 7, 37], 0),
+        ([4, 3, 2, 2, 3, 2, 2, 7, 7, 36], 8),
     ]
 }
 
@@ -104,8 +110,10 @@ fn checked_by_hand() -> Vec<Expected> {
 fn cut_limits() -> Vec<Expected> {
     let few: Line = [3, 8, 8, 8, 1, 1, 1, 1, 1, 12];
     let many = with(few, HOSTS, 64);
-    let mut list = tried(few, &[MODULUS], &[1, 2, 3], 0);
-    list.extend(tried(few, &[MODULUS], &[0, 4, 13, 257, 65537, 99999], 1));
+    let known: Vec<u32> = moduli().collect();
+    let unknown = [0, 5, 6, 13, 255, 256, 257, 260, 65537, 65540, 99999];
+    let mut list = tried(few, &[MODULUS], &known, 0);
+    list.extend(tried(few, &[MODULUS], &unknown, 1));
     list.extend(tried(many, &[M, P, N], &[1, 2, 8], 0));
     list.extend(tried(many, &[M, P, N], &[0, 9, 99999], 3));
     list.extend(tried(many, &[X_A, X_B], &[1, 16], 0));
@@ -132,7 +140,7 @@ fn size_limits() -> Vec<Expected> {
 fn host_limits() -> Vec<Expected> {
     let large = [0, 65, 256, 320, 65600, 99999];
     let mut list = Vec::new();
-    for modulus in [2, 3] {
+    for modulus in moduli().filter(|&modulus| modulus > 1) {
         let base = with(SMALLEST, MODULUS, modulus);
         list.extend(tried(base, &[HOSTS], &[3, 12, 13, 64], 0));
         list.extend(tried(base, &[HOSTS], &large, 7));
@@ -197,9 +205,10 @@ type Fault = (u32, &'static [(usize, u32)]);
 
 /// The faults that are put together in pairs, from an accepted base. The ones of 8 leave N
 /// alone or make it 16, one below K.
-const FAULTS: [Fault; 15] = [
+const FAULTS: [Fault; 16] = [
     (1, &[(MODULUS, 0)]),
-    (1, &[(MODULUS, 4)]),
+    (1, &[(MODULUS, 5)]),
+    (1, &[(MODULUS, 99999)]),
     (2, &[(T, 0)]),
     (2, &[(S, 16385)]),
     (3, &[(M, 0)]),
@@ -215,10 +224,13 @@ const FAULTS: [Fault; 15] = [
     (8, &[(X_A, 16), (X_B, 16), (M, 4), (P, 4), (N, 4)]),
 ];
 
-/// Each fault alone and each two of unlike number in unlike fields: the lower number is due.
+/// Each fault alone, for all moduli with which 20 hosts go, and each two of unlike number in unlike
+/// fields: the lower number is due.
 fn fault_pairs() -> Vec<Expected> {
     let base: Line = [2, 8, 8, 8, 2, 2, 2, 2, 2, 20];
-    let alone = FAULTS.iter().map(|fault| (faulty(base, fault), fault.0));
+    let bases = in_each_modulus(base).filter(|line| line[MODULUS] > 1);
+    let of_base = |base| FAULTS.map(|fault| (faulty(base, &fault), fault.0));
+    let alone = bases.flat_map(of_base);
     let pairs = FAULTS
         .iter()
         .flat_map(|low| FAULTS.iter().map(move |high| (low, high)));
@@ -251,7 +263,8 @@ fn extremes() -> Vec<Expected> {
         ([1; 10], 8),
         ([2; 10], 8),
         ([3; 10], 8),
-        ([4; 10], 1),
+        ([4; 10], 8),
+        ([5; 10], 1),
         ([10000; 10], 1),
         ([3, 16384, 16384, 16384, 8, 8, 8, 16, 16, 64], 6),
         ([3, 16384, 8, 2, 8, 4, 1, 1, 1, 44], 0),
@@ -261,6 +274,10 @@ fn extremes() -> Vec<Expected> {
         ([3, 1, 1, 1, 1, 1, 1, 16, 16, 33], 0),
         ([3, 1, 1, 1, 1, 1, 1, 16, 16, 32], 8),
         ([2, 8, 1, 1, 8, 1, 1, 16, 16, 64], 0),
+        ([4, 16384, 16384, 16384, 8, 8, 8, 16, 16, 64], 6),
+        ([4, 2, 16384, 2, 1, 8, 1, 1, 1, 64], 0),
+        ([4, 8, 8, 8, 8, 8, 8, 16, 16, 64], 8),
+        ([4, 1, 1, 1, 1, 1, 1, 16, 16, 33], 0),
     ];
     list.extend(longest().map(|line| (line, 0)));
     list
@@ -322,7 +339,7 @@ fn draw_accepted(random: &mut Random, number: u32) -> Line {
     let line = draw_in_layout(random, number, |needed| needed <= 64);
     let k = choose(&Job::of_line(&line)).needed;
     let lowest = if k <= 12 { 1 } else { 2 };
-    let modulus = random.within(lowest, 3);
+    let modulus = random.within(lowest, *moduli().end());
     let hosts = random.within(k, if modulus == 1 { 12 } else { 64 });
     loop {
         let sized = scaled(random, with(with(line, MODULUS, modulus), HOSTS, hosts));

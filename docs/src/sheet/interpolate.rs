@@ -4,7 +4,7 @@
 //!
 //!   interpolated  the coefficients, lowest first
 
-use super::share::times;
+use super::share::{sum_of, times};
 
 /// The coefficients, lowest first, of the polynomial with as many of them as there are points and
 /// with this block as its value at each point; panics if the points are not distinct.
@@ -36,7 +36,7 @@ fn eliminate(rows: &mut [Vec<u32>], column: usize, q: u32) {
     for row in rows.iter_mut() {
         let factor = q - row[column];
         for (element, &x) in row.iter_mut().zip(&own) {
-            *element = (*element + times(x, factor, q)) % q;
+            *element = sum_of(*element, times(x, factor, q), q);
         }
     }
     rows[column] = own;
@@ -61,7 +61,7 @@ fn value_at(coefficients: &[Vec<u32>], point: u32, q: u32) -> Vec<u32> {
     let mut value = vec![0; coefficients[0].len()];
     for block in coefficients.iter().rev() {
         for (sum, &element) in value.iter_mut().zip(block) {
-            *sum = (times(*sum, point, q) + element) % q;
+            *sum = sum_of(times(*sum, point, q), element, q);
         }
     }
     value

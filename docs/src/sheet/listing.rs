@@ -1,6 +1,6 @@
 //! The plan lister's text (01, "The plan lister" and refusal 26).
 
-use super::plan::{choose, prime, refusal, Job, Line};
+use super::plan::{choose, known_prime, refusal, Job, Line};
 
 /// A line as the lister reads it: single spaces between, one LF at the end.
 pub fn text(line: &Line) -> Vec<u8> {
@@ -59,7 +59,7 @@ pub fn refused(number: u32) -> String {
 
 /// The seven lines of an accepted plan.
 fn listing(job: &Job) -> String {
-    let q = prime(job.modulus).expect("an accepted plan has a modulus");
+    let q = known_prime(job.modulus);
     let layout = choose(job);
     [
         format!("MODULUS {q}\n"),

@@ -7,10 +7,10 @@
 use std::collections::HashMap;
 
 use super::masks::{draw, drawn, limit, Drawing, Drawn, WORDS};
-use super::plan::{moduli, prime};
+use super::plan::primes;
 
-/// How many words are skipped for each modulus: always the topmost (02, U3).
-const SKIPPED: [u32; 3] = [9, 1, 1];
+/// How many words are skipped for each modulus: always the topmost (02, U3 and U4).
+const SKIPPED: [u32; 4] = [9, 1, 1, 2];
 
 /// Panics unless drawing agrees with everything below.
 pub fn run() {
@@ -45,17 +45,21 @@ fn hand_values() {
     assert_eq!(of(1, &mixed, 4), Err(27));
     assert_eq!(of(2, &[top(1), top(0), top(0)], 1), Ok((vec![256], 1)));
     assert_eq!(of(3, &[top(0), 65537], 1), Ok((vec![0], 2)));
+    let large = [top(1), top(2), top(0), 2147483647, 2147483648];
+    assert_eq!(of(4, &large, 1), Ok((vec![2147483646], 2)));
+    assert_eq!(of(4, &large, 3), Ok((vec![2147483646, 0, 1], 5)));
+    assert_eq!(of(4, &large, 4), Err(27));
     assert_eq!(of(1, &[top(0)], 0), Ok((vec![], 0)));
     assert_eq!(of(1, &[], 0), Ok((vec![], 0)));
     assert_eq!(of(0, &[], 0), Err(1));
     assert_eq!(of(0, &[], 1), Err(1));
+    assert_eq!(of(5, &[], 1), Err(1));
 }
 
 /// The words that are skipped, by a walk down from 2^32 to the first multiple of q.
 fn skipped_words() {
-    assert_eq!(moduli().count(), SKIPPED.len());
-    for (modulus, due) in moduli().zip(SKIPPED) {
-        let q = prime(modulus).expect("a modulus number");
+    assert_eq!(primes().count(), SKIPPED.len());
+    for ((_, q), due) in primes().zip(SKIPPED) {
         let mut down = (0..q).map(|below| WORDS - u64::from(below));
         let first = down.find(|number| number % u64::from(q) == 0);
         assert_eq!(first, Some(limit(WORDS, q)));

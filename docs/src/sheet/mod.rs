@@ -15,6 +15,7 @@
 //!   interpolate  interpolation, by a system of linear equations
 //!   decode       the table, decoded
 //!   whole_job    a job with its matrices and masks, its true products and its table
+//!   sums_check   sums of products against what they must be where every element is q - 1
 
 pub mod arrival;
 pub mod decode;
@@ -30,4 +31,5 @@ pub mod product;
 pub mod random;
 pub mod share;
 pub mod signed;
+pub mod sums_check;
 pub mod whole_job;

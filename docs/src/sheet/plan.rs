@@ -1,14 +1,18 @@
-//! The plan of a job (01, "The job", "Exponents" and "What is turned down"; 02, U2).
+//! The plan of a job (01, "The job", "Exponents" and "What is turned down"; 02, U2 and U4).
 //!
-//!   Line        a job's numbers as the lister reads them
-//!   Job         the public numbers that the plan's tests look at
-//!   prime       the modulus q of a modulus number
-//!   moduli      the modulus numbers
-//!   refusal     the first of the numbers 1 to 11 that fits a job and its evaluation points
-//!   Layout      the exponents of blocks and masks, the places of C, the recovery threshold K
-//!   layouts     the three layouts, by number
-//!   thresholds  the recovery thresholds of the three
-//!   choose      the layout that is used
+//!   Line         a job's numbers as the lister reads them
+//!   Job          the public numbers that the plan's tests look at
+//!   prime        the modulus q of a modulus number
+//!   known_prime  the same where there is one for certain
+//!   primes       the modulus numbers, each with its prime
+//!   moduli       the modulus numbers
+//!   refusal      the first of the numbers 1 to 11 that fits a job and its evaluation points
+//!   Layout       the exponents of blocks and masks, the places of C, the recovery threshold K
+//!   layouts      the three layouts, by number
+//!   thresholds   the recovery thresholds of the three
+//!   choose       the layout that is used
+
+use std::ops::RangeInclusive;
 
 /// The ten numbers that the lister reads: modulus number, t, s, r, m, p, n, X_A, X_B, N.
 pub type Line = [u32; 10];
@@ -64,19 +68,31 @@ impl Job {
     }
 }
 
-/// The prime q that a modulus number stands for; there is none for any other number.
+/// The prime q that a modulus number stands for; there is none for any other number. This is the one
+/// table of them.
 pub fn prime(modulus: u32) -> Option<u32> {
     match modulus {
         1 => Some(13),
         2 => Some(257),
         3 => Some(65537),
+        4 => Some(2147483647),
         _ => None,
     }
 }
 
-/// The modulus numbers.
-pub fn moduli() -> impl Iterator<Item = u32> {
-    (1..).take_while(|&number| prime(number).is_some())
+/// The prime of a modulus number; panics where there is none.
+pub fn known_prime(modulus: u32) -> u32 {
+    prime(modulus).expect("a modulus number")
+}
+
+/// The modulus numbers, each with its prime.
+pub fn primes() -> impl Iterator<Item = (u32, u32)> {
+    (1..).map_while(|modulus| Some((modulus, prime(modulus)?)))
+}
+
+/// The modulus numbers: from 1 to as many as there are.
+pub fn moduli() -> RangeInclusive<u32> {
+    1..=primes().count() as u32
 }
 
 /// The first refusal number that fits the plan, in the sheet's order; none if it is accepted.

@@ -6,7 +6,7 @@
 //!   cut       a job that matters only for its exponents
 //!   all_cuts  all of them
 
-use super::plan::{choose, layouts, refusal, thresholds, Job, Layout};
+use super::plan::{choose, layouts, moduli, prime, refusal, thresholds, Job, Layout};
 
 /// Document 004, table IV, as far as the sheet's limits go: p, m, n, the size of both groups, and K.
 #[rustfmt::skip]
@@ -18,13 +18,27 @@ pub const TABLE_IV: [[u32; 5]; 12] = [
 
 /// Panics unless the plan agrees with everything below.
 pub fn run() {
+    modulus_numbers();
     hand_values();
     table_iv();
     point_tests();
+    large_point_tests();
     for cut in all_cuts() {
         let layouts = layouts(&cut);
         choice(&cut, layouts.each_ref().map(|layout| layout.needed));
         layouts.iter().for_each(|layout| sound(&cut, layout));
+    }
+}
+
+/// The primes of 01, "The job", and of 02, U4; 1 is told for 0 and from 5 on, whatever else is wrong.
+fn modulus_numbers() {
+    let primes = moduli().map(prime);
+    assert!(primes.eq([13, 257, 65537, 2147483647].map(Some)));
+    for modulus in [0, 5, 6, 255, 256, 260, 65540, u32::MAX] {
+        let fit = cut(1, 1, 1, 1, 1);
+        assert_eq!(refusal(&Job { modulus, ..fit }, &[1, 2, 3]), Some(1));
+        let all_zero = Job::of_line(&[modulus, 0, 0, 0, 0, 0, 0, 0, 0, 0]);
+        assert_eq!(refusal(&all_zero, &[]), Some(1));
     }
 }
 
@@ -132,6 +146,23 @@ fn point_tests() {
     assert_eq!(refusal(&job, &[1, 0, 1]), Some(10));
     assert_eq!(refusal(&job, &[1, 13, 1]), Some(10));
     assert_eq!(refusal(&job, &[5, 5, 0]), Some(11));
+}
+
+/// The same for q = 2147483647: q - 1 is a point, q is none.
+fn large_point_tests() {
+    let (q, hosts) = (2147483647, 3);
+    let job = Job {
+        modulus: 4,
+        hosts,
+        ..cut(1, 1, 1, 1, 1)
+    };
+    assert_eq!(refusal(&job, &[q - 1, 1, q - 2]), None);
+    assert_eq!(refusal(&job, &[q - 1, q]), Some(9));
+    assert_eq!(refusal(&job, &[q - 1, q, q - 1]), Some(10));
+    assert_eq!(refusal(&job, &[q - 1, 0, q - 1]), Some(10));
+    assert_eq!(refusal(&job, &[1, 2, u32::MAX]), Some(10));
+    assert_eq!(refusal(&job, &[q - 1, q - 1, q]), Some(11));
+    assert_eq!(refusal(&job, &[q - 1, 1, q - 1]), Some(11));
 }
 
 /// Panics unless a layout does what it is for: each side's exponents are distinct, the masks'

@@ -37,11 +37,11 @@ pub fn product(call: &Multiplying) -> Result<Vec<u32>, u32> {
     Ok(cells.map(|(i, j)| entry(call, i, j, q)).collect())
 }
 
-/// The product's element in a row and a column, from 0: at most 4096 products of at most 2^32
-/// each, so the sum fits 64 bits.
+/// The product's element in a row and a column, from 0. Five products of elements may pass 64 bits,
+/// so the sum is made in 128: at most 4096 products, each below 2^62.
 fn entry(call: &Multiplying, row: usize, column: usize, q: u32) -> u32 {
     let (inner, columns) = (call.inner as usize, call.columns as usize);
     let products = (0..inner)
-        .map(|k| u64::from(call.a[row * inner + k]) * u64::from(call.b[k * columns + column]));
-    (products.sum::<u64>() % u64::from(q)) as u32
+        .map(|k| u128::from(call.a[row * inner + k]) * u128::from(call.b[k * columns + column]));
+    (products.sum::<u128>() % u128::from(q)) as u32
 }

@@ -5,6 +5,7 @@
 //!   Shape    what a side takes from the job: sizes and exponents
 //!   share    the share, or the first refusal number that fits
 //!   times    a product in the field
+//!   sum_of   a sum in the field
 
 use super::plan::{self, choose, prime, Job};
 
@@ -146,12 +147,12 @@ fn power(point: u32, exponent: u32, q: u32) -> u32 {
     (0..exponent).fold(1, |value, _| times(value, point, q))
 }
 
-/// A product mod q; it is made in 64 bits, since (q - 1)^2 reaches 2^32.
+/// A product mod q; it is made in 64 bits, since (q - 1)^2 is below 2^62.
 pub fn times(x: u32, y: u32, q: u32) -> u32 {
     (u64::from(x) * u64::from(y) % u64::from(q)) as u32
 }
 
-/// A sum mod q.
-fn sum_of(x: u32, y: u32, q: u32) -> u32 {
-    (x + y) % q
+/// A sum mod q; it is made in 64 bits, too.
+pub fn sum_of(x: u32, y: u32, q: u32) -> u32 {
+    ((u64::from(x) + u64::from(y)) % u64::from(q)) as u32
 }

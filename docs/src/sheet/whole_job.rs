@@ -4,11 +4,12 @@
 //!   WholeJob   a job that the plan accepts, with all that comes of it
 //!   written    the message of given fields and elements
 //!   sharing    the call that makes a host's share
-//!   plain      A times B, straight from the matrices
+//!   exact      A times B in whole numbers
+//!   plain      A times B over the field
 
 use super::job_call::{answer_length, Act, JobCall};
 use super::message::{write, Fields, Writing, HEADER};
-use super::plan::{choose, prime, Job, Line};
+use super::plan::{choose, known_prime, Job, Line};
 use super::product::{product, Multiplying};
 use super::random::Random;
 use super::share::{share, Shape, Sharing, Side};
@@ -46,7 +47,7 @@ impl WholeJob {
     /// The job with these numbers, points and contents of A and B.
     pub fn of(line: Line, job_number: u32, points: Vec<u32>, sides: [Contents; 2]) -> WholeJob {
         let job = Job::of_line(&line);
-        let q = prime(job.modulus).expect("a modulus number");
+        let q = known_prime(job.modulus);
         let hosts = 1..=job.hosts;
         WholeJob {
             job,
@@ -62,7 +63,7 @@ impl WholeJob {
     /// A job with random matrices, masks and job number.
     pub fn drawn(random: &mut Random, line: Line, points: Vec<u32>) -> WholeJob {
         let job = Job::of_line(&line);
-        let q = prime(job.modulus).expect("a modulus number");
+        let q = known_prime(job.modulus);
         let sides = [Side::A, Side::B].map(|side| Contents::drawn(random, side, &job, q));
         WholeJob::of(line, random.word(), points, sides)
     }
@@ -149,15 +150,21 @@ fn answer(job: &Job, points: &[u32], sides: &[Contents; 2], host: u32) -> Vec<u3
     product(&multiplying).expect("a fit product")
 }
 
-/// A times B over the field, straight from the matrices: at most 16384 products of at most 2^32
-/// each, so a sum fits 64 bits.
-pub fn plain(job: &Job, sides: &[Contents; 2], q: u32) -> Vec<u32> {
+/// A times B in whole numbers, straight from the matrices. A sum is made in 128 bits: at most 16384
+/// products, each below 2^64.
+pub fn exact(job: &Job, sides: &[Contents; 2]) -> Vec<u128> {
     let [t, s, r] = [job.t, job.s, job.r].map(|size| size as usize);
     let [a, b] = [&sides[0].matrix, &sides[1].matrix];
     let entry = |row: usize, column: usize| {
-        let products = (0..s).map(|i| u64::from(a[row * s + i]) * u64::from(b[i * r + column]));
-        (products.sum::<u64>() % u64::from(q)) as u32
+        let products = (0..s).map(|i| u128::from(a[row * s + i]) * u128::from(b[i * r + column]));
+        products.sum()
     };
     let cells = (0..t).flat_map(|row| (0..r).map(move |column| (row, column)));
     cells.map(|(row, column)| entry(row, column)).collect()
+}
+
+/// A times B over the field.
+pub fn plain(job: &Job, sides: &[Contents; 2], q: u32) -> Vec<u32> {
+    let sums = exact(job, sides).into_iter();
+    sums.map(|sum| (sum % u128::from(q)) as u32).collect()
 }

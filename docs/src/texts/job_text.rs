@@ -10,7 +10,7 @@ use super::sections::WORDS;
 use crate::cases::folder::Case;
 use crate::cases::forms::strewn;
 use crate::sheet::listing::{self, refused};
-use crate::sheet::plan::{choose, prime, Job, Line};
+use crate::sheet::plan::{choose, known_prime, Job, Line};
 use crate::sheet::random::Random;
 use crate::sheet::share::Side;
 use crate::sheet::whole_job::{plain, Contents};
@@ -83,7 +83,7 @@ impl JobText {
     /// All that must be printed for a job that is shared.
     pub fn due(&self) -> String {
         let job = Job::of_line(&self.line);
-        let q = prime(job.modulus).expect("a modulus number");
+        let q = known_prime(job.modulus);
         let needed = choose(&job).needed as usize;
         let (lines, heard) = answers(&self.order, job.hosts, needed);
         let end = if heard.len() < needed {

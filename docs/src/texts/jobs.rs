@@ -6,10 +6,11 @@
 //!   drawn           a job with random contents
 
 use super::job_text::JobText;
+use crate::cases::draw::turns;
 use crate::cases::folder::Case;
 use crate::jobs::faults::SMALL;
 use crate::jobs::stories::{draw_points, small_line};
-use crate::sheet::plan::{choose, prime, Job, Line};
+use crate::sheet::plan::{choose, known_prime, primes, Job, Line};
 use crate::sheet::random::Random;
 use crate::sheet::whole_job::Contents;
 
@@ -74,8 +75,7 @@ fn checked_by_hand() -> Vec<Case> {
 /// A table of 0, (q - 1)/2, (q + 1)/2 and q - 1, in a column and in a row.
 fn signed_ends() -> Vec<Case> {
     let mut cases = Vec::new();
-    for modulus in 1..=3 {
-        let q = prime(modulus).expect("a modulus number");
+    for (modulus, q) in primes() {
         let half = (q - 1) / 2;
         for upright in [true, false] {
             let long = Contents {
@@ -109,14 +109,15 @@ fn signed_ends() -> Vec<Case> {
 /// fifth the order is cut short.
 fn small_jobs(random: &mut Random) -> Vec<Case> {
     let mut cases = Vec::new();
-    for round in 0..160 {
+    for round in 0..220 {
         let line = small_line(random, round);
-        let mut job = drawn(random, line, round / 8);
+        let cycle = round / turns();
+        let mut job = drawn(random, line, cycle);
         job.order = disturbed(random, line[9]);
         if round % 5 == 3 {
             job.order.truncate(random.index(job.order.len()));
         }
-        let text = match round / 8 % 2 {
+        let text = match cycle % 2 {
             0 => job.text(),
             _ => job.strewn_text(random),
         };
@@ -128,7 +129,7 @@ fn small_jobs(random: &mut Random) -> Vec<Case> {
 /// A job with random matrices and masks, and points of some kind.
 pub fn drawn(random: &mut Random, line: Line, kind: u32) -> JobText {
     let points = draw_points(random, line, kind);
-    let q = prime(line[0]).expect("a modulus number");
+    let q = known_prime(line[0]);
     JobText::drawn(random, line, points, q)
 }
 
@@ -169,6 +170,12 @@ fn large_groups(random: &mut Random) -> Vec<Case> {
         [3, 4, 6, 4, 2, 3, 2, 7, 8, 38],
         [2, 2, 5, 4, 2, 5, 2, 14, 11, 64],
         [3, 2, 2, 5, 2, 2, 5, 11, 14, 64],
+        [4, 4, 4, 4, 2, 2, 2, 2, 2, 20],
+        [4, 2, 3, 1, 1, 1, 1, 16, 16, 40],
+        [4, 2, 4, 8, 1, 2, 8, 1, 1, 27],
+        [4, 6, 4, 4, 3, 2, 2, 7, 7, 38],
+        [4, 14, 2, 21, 7, 1, 7, 1, 1, 63],
+        [4, 2, 5, 4, 2, 5, 2, 14, 11, 64],
     ];
     let mut cases = Vec::new();
     for (kind, line) in (0..).zip(lines) {
@@ -183,10 +190,9 @@ fn large_groups(random: &mut Random) -> Vec<Case> {
 /// their range; every point of q = 13 is used.
 fn fillings(random: &mut Random) -> Vec<Case> {
     let mut cases = Vec::new();
-    for modulus in 1..=3 {
+    for (modulus, q) in primes() {
         for (round, job_number) in (0..).zip([0, 1, 1 << 31, u32::MAX]) {
             let mut job = drawn(random, [modulus, 4, 2, 3, 2, 1, 1, 1, 2, 12], 3);
-            let q = prime(modulus).expect("a modulus number");
             let [element, mask] = [round / 2, round % 2].map(|way| way * (q - 1));
             for side in &mut job.sides {
                 side.matrix.fill(element);
@@ -246,11 +252,15 @@ fn large_blocks(random: &mut Random) -> Vec<Case> {
         ([2, 1, 1, 15416, 1, 1, 8, 1, 1, 17], false),
         ([2, 1, 8000, 1, 1, 8, 1, 1, 1, 17], false),
         ([3, 1, 14464, 1, 1, 8, 1, 1, 1, 17], true),
+        ([4, 64, 1, 32, 1, 1, 1, 1, 1, 16], false),
+        ([4, 32, 32, 32, 1, 1, 1, 1, 1, 32], false),
+        ([4, 64, 64, 64, 1, 1, 1, 1, 1, 8], true),
+        ([4, 1, 14464, 1, 1, 8, 1, 1, 1, 17], true),
     ];
     let mut cases = Vec::new();
     for (line, one_digit) in lines {
         let points = draw_points(random, line, 3);
-        let q = prime(line[0]).expect("a modulus number");
+        let q = known_prime(line[0]);
         let below = if one_digit { 10 } else { q };
         let mut job = JobText::drawn(random, line, points, below);
         job.order.insert(1, job.order[0]);

@@ -5,6 +5,7 @@
 //!   printed   what the program of a whole job must print for a text
 //!   job_text  a job as a text, and what must be printed by a shorter way
 //!   jobs      texts of jobs that are carried out
+//!   depths    texts of jobs with read depths
 //!   forms     texts of all forms and lengths
 //!   numbers   texts with a fault in a number
 //!   words     texts with a fault in a word
@@ -13,6 +14,7 @@
 //!   short     texts that end too soon, and texts changed by chance
 
 mod counts;
+mod depths;
 mod forms;
 mod job_text;
 mod jobs;
@@ -26,23 +28,30 @@ mod words;
 use crate::cases::folder::{self, capitals, Case};
 use crate::sheet::plan_check;
 use crate::sheet::random::Random;
+use crate::sheet::sums_check;
 use printed::printed;
 
-/// The kinds of all that is printed; there must be a text for each.
+/// The kinds of all that is printed, each with the least count of its texts.
 #[rustfmt::skip]
-const KINDS: [&str; 45] = [
-    "expected the end of the text", "expected the word A", "expected the word ANSWERS",
-    "expected the word B", "expected the word JOB", "expected the word MASKS_A",
-    "expected the word MASKS_B", "expected the word POINTS", "job too large", "no number",
-    "number too large", "plan refused  1", "plan refused  2", "plan refused  3", "plan refused  4",
-    "plan refused  5", "plan refused  6", "plan refused  7", "plan refused  8", "plan refused 10",
-    "plan refused 11", "section A long", "section A short", "section B long", "section B short",
-    "section JOB long", "section JOB short", "section MASKS_A long", "section MASKS_A short",
-    "section MASKS_B long", "section MASKS_B short", "section POINTS long", "section POINTS short",
-    "share refused 14", "share refused 15", "table of 13, layout 1", "table of 13, layout 2",
-    "table of 257, layout 1", "table of 257, layout 2", "table of 257, layout 3",
-    "table of 65537, layout 1", "table of 65537, layout 2", "table of 65537, layout 3",
-    "table refused 24", "text too long",
+const KINDS: [(&str, u32); 48] = [
+    ("expected the end of the text", 9), ("expected the word A", 43),
+    ("expected the word ANSWERS", 37), ("expected the word B", 35), ("expected the word JOB", 56),
+    ("expected the word MASKS_A", 36), ("expected the word MASKS_B", 37),
+    ("expected the word POINTS", 62), ("job too large", 34), ("no number", 177),
+    ("number too large", 51), ("plan refused  1", 105), ("plan refused  2", 36),
+    ("plan refused  3", 49), ("plan refused  4", 23), ("plan refused  5", 52),
+    ("plan refused  6", 15), ("plan refused  7", 21), ("plan refused  8", 39),
+    ("plan refused 10", 30), ("plan refused 11", 30), ("section A long", 42),
+    ("section A short", 68), ("section B long", 36), ("section B short", 49),
+    ("section JOB long", 34), ("section JOB short", 40), ("section MASKS_A long", 43),
+    ("section MASKS_A short", 49), ("section MASKS_B long", 46), ("section MASKS_B short", 43),
+    ("section POINTS long", 28), ("section POINTS short", 59), ("share refused 14", 37),
+    ("share refused 15", 34), ("table of 13, layout 1", 109), ("table of 13, layout 2", 25),
+    ("table of 2147483647, layout 1", 56), ("table of 2147483647, layout 2", 39),
+    ("table of 2147483647, layout 3", 30), ("table of 257, layout 1", 76),
+    ("table of 257, layout 2", 26), ("table of 257, layout 3", 25),
+    ("table of 65537, layout 1", 42), ("table of 65537, layout 2", 36),
+    ("table of 65537, layout 3", 32), ("table refused 24", 73), ("text too long", 10),
 ];
 
 /// The most texts.
@@ -51,6 +60,7 @@ const MOST_TEXTS: usize = 3000;
 /// Checks the program, then writes the texts and all that must be printed to a folder.
 pub fn write_folder(folder: &str) {
     plan_check::run();
+    sums_check::run();
     let cases = gathered();
     assert!(cases.len() <= MOST_TEXTS);
     folder::write(folder, &cases, kind, &KINDS);
@@ -62,6 +72,7 @@ fn gathered() -> Vec<Case> {
     let random = &mut Random::new(2029);
     let groups = [
         jobs::jobs(random),
+        depths::depths(random),
         forms::forms(),
         numbers::faults(),
         words::words(),

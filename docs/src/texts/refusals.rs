@@ -7,11 +7,11 @@
 use super::job_text::{sectioned, JobText};
 use super::jobs::drawn;
 use super::printed::{count_line, large_line};
-use crate::cases::faults::{alone_and_in_pairs, Fault};
+use crate::cases::faults::{alone, alone_and_in_pairs, Fault};
 use crate::cases::folder::Case;
-use crate::jobs::faults::{last_of, SMALL};
+use crate::jobs::faults::{last_of, LARGE, SMALL};
 use crate::sheet::listing::refused;
-use crate::sheet::plan::prime;
+use crate::sheet::plan::{known_prime, primes, Line};
 use crate::sheet::random::Random;
 
 /// A job, and numbers too many or too few in a section.
@@ -29,6 +29,11 @@ enum Count {
 }
 
 impl Spoilt {
+    /// The job's prime.
+    fn q(&self) -> u32 {
+        known_prime(self.job.line[0])
+    }
+
     /// Makes the count of a section wrong.
     fn count(&mut self, section: usize, count: Count) {
         self.spoilt = Some((section, count));
@@ -64,10 +69,14 @@ impl Spoilt {
     }
 }
 
-/// Faults of a text of `SMALL`, in the order of the tests: one of each number for its plan,
-/// a wrong count, then one of each number for A and for B.
-const FAULTS: [Fault<Spoilt>; 16] = [
-    (1, |spoilt| spoilt.job.line[0] = 4),
+/// Faults of a text of `SMALL` or `LARGE`, in the order of the tests: several modulus numbers, one of
+/// each other number for its plan, a wrong count, then one of each number for A and for B.
+const FAULTS: [Fault<Spoilt>; 20] = [
+    (1, |spoilt| spoilt.job.line[0] = 5),
+    (1, |spoilt| spoilt.job.line[0] = 0),
+    (1, |spoilt| spoilt.job.line[0] = 255),
+    (1, |spoilt| spoilt.job.line[0] = 256),
+    (1, |spoilt| spoilt.job.line[0] = u32::MAX),
     (2, |spoilt| spoilt.job.line[2] = 16385),
     (3, |spoilt| spoilt.job.line[5] = 9),
     (4, |spoilt| spoilt.job.line[7] = 0),
@@ -76,20 +85,22 @@ const FAULTS: [Fault<Spoilt>; 16] = [
     (7, |spoilt| spoilt.job.line[9] = 65),
     (8, |spoilt| spoilt.job.line[8] = 2),
     (9, |spoilt| spoilt.count(1, Count::Short)),
-    (10, |spoilt| spoilt.job.points[7] = 257),
+    (10, |spoilt| spoilt.job.points[7] = spoilt.q()),
     (11, |spoilt| spoilt.job.points[9] = 3),
     (13, |spoilt| spoilt.count(5, Count::Long)),
-    (14, |spoilt| spoilt.job.sides[0].matrix[0] = 257),
-    (15, |spoilt| spoilt.job.sides[0].masks[0] = 257),
-    (14, |spoilt| spoilt.job.sides[1].matrix[0] = 257),
-    (15, |spoilt| spoilt.job.sides[1].masks[0] = 257),
+    (14, |spoilt| spoilt.job.sides[0].matrix[0] = spoilt.q()),
+    (15, |spoilt| spoilt.job.sides[0].masks[0] = spoilt.q()),
+    (14, |spoilt| spoilt.job.sides[1].matrix[0] = spoilt.q()),
+    (15, |spoilt| spoilt.job.sides[1].masks[0] = spoilt.q()),
 ];
 
 /// More faults of a text of `SMALL`.
-const MORE_FAULTS: [Fault<Spoilt>; 36] = [
-    (1, |spoilt| spoilt.job.line[0] = 0),
+const MORE_FAULTS: [Fault<Spoilt>; 38] = [
+    (1, |spoilt| spoilt.job.line[0] = 6),
     (1, |spoilt| spoilt.job.line[0] = 257),
-    (1, |spoilt| spoilt.job.line[0] = u32::MAX),
+    (1, |spoilt| spoilt.job.line[0] = 260),
+    (1, |spoilt| spoilt.job.line[0] = 65540),
+    (1, |spoilt| spoilt.job.line[0] = (1 << 31) + 4),
     (2, |spoilt| spoilt.job.line[1] = 0),
     (2, |spoilt| spoilt.job.line[1] = 1 << 16 | 4),
     (2, |spoilt| spoilt.job.line[2] = 1 << 31 | 3),
@@ -139,17 +150,16 @@ const MORE_FAULTS: [Fault<Spoilt>; 36] = [
     (13, |spoilt| spoilt.count(4, Count::Short)),
 ];
 
-/// Texts of `SMALL` with faults: each alone, and one of each number in pairs. A refused share comes
-/// after the plan.
+/// Texts of `SMALL` with faults, each alone, and many in pairs; and texts of `LARGE`, with each of these
+/// alone. A refused share comes after the plan.
 pub fn refusals(random: &mut Random) -> Vec<Case> {
-    let job = drawn(random, SMALL, 0);
-    let base = Spoilt { job, spoilt: None };
-    let mut texts = alone_and_in_pairs(&base, &FAULTS);
-    for (number, fault) in MORE_FAULTS {
-        let mut spoilt = base.clone();
-        fault(&mut spoilt);
-        texts.push((spoilt, number));
-    }
+    let [small, large] = [SMALL, LARGE].map(|line| Spoilt {
+        job: drawn(random, line, 0),
+        spoilt: None,
+    });
+    let mut texts = alone_and_in_pairs(&small, &FAULTS);
+    texts.extend(alone(&small, &MORE_FAULTS));
+    texts.extend(alone(&large, &FAULTS));
     let cases = texts.into_iter();
     cases
         .map(|(spoilt, number)| (spoilt.text(), spoilt.due(number)))
@@ -159,11 +169,10 @@ pub fn refusals(random: &mut Random) -> Vec<Case> {
 /// For each modulus, one element or mask that is q - 1, q or q + 1.
 pub fn borders(random: &mut Random) -> Vec<Case> {
     let mut cases = Vec::new();
-    for modulus in 1..=3 {
+    for (modulus, q) in primes() {
         let mut line = SMALL;
         line[0] = modulus;
         let base = drawn(random, line, 0);
-        let q = prime(modulus).expect("a modulus number");
         for (part, number) in [(0, 14), (1, 14), (2, 15), (3, 15)] {
             for element in [q - 1, q, q + 1] {
                 let mut job = base.clone();
@@ -186,29 +195,33 @@ pub fn borders(random: &mut Random) -> Vec<Case> {
     cases
 }
 
-/// Jobs with more elements than the program has room for, by one and by many, in answers, A blocks
-/// or B blocks; no size limit of the sheet is broken. The other sections are empty, or have some
-/// numbers; with one point short, 0 or repeated the plan is refused.
+/// Plans that are accepted but need more elements than the program has room for, by one and by many, in
+/// answers, A blocks or B blocks; and how many they need.
+const TOO_LARGE: [(Line, usize); 17] = [
+    ([1, 64, 1, 64, 1, 1, 1, 1, 1, 9], 36_864),
+    ([2, 64, 64, 1, 1, 1, 1, 1, 1, 9], 36_864),
+    ([3, 1, 64, 64, 1, 1, 1, 1, 1, 9], 36_864),
+    ([1, 331, 1, 11, 1, 1, 1, 1, 1, 9], 32_769),
+    ([2, 331, 11, 1, 1, 1, 1, 1, 1, 9], 32_769),
+    ([3, 1, 11, 331, 1, 1, 1, 1, 1, 9], 32_769),
+    ([3, 64, 64, 64, 1, 1, 1, 1, 1, 64], 262_144),
+    ([3, 27, 1, 19, 1, 1, 1, 1, 1, 64], 32_832),
+    ([3, 448, 1, 448, 7, 1, 7, 1, 1, 64], 262_144),
+    ([3, 256, 256, 64, 4, 4, 1, 8, 8, 64], 262_144),
+    ([2, 66, 2, 64, 2, 2, 2, 5, 5, 32], 33_792),
+    ([1, 16384, 1, 1, 4, 1, 1, 1, 1, 9], 36_864),
+    ([2, 1, 16384, 1, 1, 4, 1, 1, 1, 9], 36_864),
+    ([3, 1, 1, 16384, 1, 1, 8, 1, 1, 17], 34_816),
+    ([2, 15424, 1, 1, 8, 1, 1, 1, 1, 17], 32_776),
+    ([4, 64, 64, 64, 1, 1, 1, 1, 1, 64], 262_144),
+    ([4, 1, 16384, 1, 1, 8, 1, 1, 1, 17], 34_816),
+];
+
+/// The jobs that are too large. The other sections are empty, or have some numbers; with one point short,
+/// 0 or repeated the plan is refused.
 pub fn large() -> Vec<Case> {
-    let lines = [
-        ([1, 64, 1, 64, 1, 1, 1, 1, 1, 9], 36_864),
-        ([2, 64, 64, 1, 1, 1, 1, 1, 1, 9], 36_864),
-        ([3, 1, 64, 64, 1, 1, 1, 1, 1, 9], 36_864),
-        ([1, 331, 1, 11, 1, 1, 1, 1, 1, 9], 32_769),
-        ([2, 331, 11, 1, 1, 1, 1, 1, 1, 9], 32_769),
-        ([3, 1, 11, 331, 1, 1, 1, 1, 1, 9], 32_769),
-        ([3, 64, 64, 64, 1, 1, 1, 1, 1, 64], 262_144),
-        ([3, 27, 1, 19, 1, 1, 1, 1, 1, 64], 32_832),
-        ([3, 448, 1, 448, 7, 1, 7, 1, 1, 64], 262_144),
-        ([3, 256, 256, 64, 4, 4, 1, 8, 8, 64], 262_144),
-        ([2, 66, 2, 64, 2, 2, 2, 5, 5, 32], 33_792),
-        ([1, 16384, 1, 1, 4, 1, 1, 1, 1, 9], 36_864),
-        ([2, 1, 16384, 1, 1, 4, 1, 1, 1, 9], 36_864),
-        ([3, 1, 1, 16384, 1, 1, 8, 1, 1, 17], 34_816),
-        ([2, 15424, 1, 1, 8, 1, 1, 1, 1, 17], 32_776),
-    ];
     let mut cases = Vec::new();
-    for (line, elements) in lines {
+    for (line, elements) in TOO_LARGE {
         let points: Vec<u32> = (1..=line[9]).collect();
         let text = |points: &[u32], others: &[u32]| {
             let job = [&line[..], &[0]].concat();

@@ -6,7 +6,7 @@
 use super::job_text::{tokens, JobText};
 use super::jobs::{drawn, IN_EACH_LAYOUT};
 use super::sections::{expected_line, WORDS};
-use crate::cases::draw::nudged;
+use crate::cases::draw::{nudged, turns};
 use crate::cases::folder::Case;
 use crate::cases::tokens::Position;
 use crate::jobs::stories::small_line;
@@ -60,10 +60,10 @@ fn beginning(job: &JobText, kept: usize, gap: u8) -> Case {
 /// Texts of small jobs with a byte or a number of the plan changed by chance.
 pub fn changed(random: &mut Random) -> Vec<Vec<u8>> {
     let mut texts = Vec::new();
-    for round in 0..400 {
+    for round in 0..440 {
         let line = small_line(random, round);
         let mut job = drawn(random, line, 0);
-        if round / 8 % 2 == 0 {
+        if round / turns() % 2 == 0 {
             texts.push(damage(random, job.text()));
         } else {
             job.line = nudged(random, line);

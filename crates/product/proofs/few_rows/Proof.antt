@@ -1,21 +1,46 @@
 -- `product::few_rows` meets its contract.
 use mathlib.Core.Path.{_≡_, sym, ap, ap₂, _∙_}
-use Prim.Native.Nat.{ℕ, _*_, _≤_}
+use mathlib.Core.Bool.{_||_, true≢false}
+use mathlib.Core.Logic.{⊎-elim}
+use Prim.Native.Nat.{ℕ, _*_, _<_, _≤_}
 use native.Mathlib.Omega.{arith}
 use borrow.Author.Needs.{needs}
+use borrow.Author.Tests.{ltb-false, le-ltb}
+use lib.Dec.{ltb}
 use lib.ListN.{length, replicate}
 use lib.Seq.{length-take-le}
+use Rattle.algebra.proofs.Orders.{le-or-lt}
+use Rattle.algebra.proofs.Tests.{or-left}
 use Rattle.field.specs.Modulus.{prime}
 use Rattle.product.specs.Product.{productOf}
 use Rattle.product.proofs.Rows.{front-there, two-rows}
 use Rattle.product.proofs.few_rows.Statement.{statement}
 use Rattle.product.proofs.few_rows.Tie as tie
 
+prime-of-requires : tie.Need-prime-of-requires
+prime-of-requires c κs = search needs
+
+-- where the call starts
+abbrev start-of : tie.After-prime-of → tie.Start
+start-of c = c .before .before .before .before .before
+
+-- one row, where two are not asked for
+one-row : (c : tie.Then1) → start-of (c .before) .args .count ≡ 1
+one-row c =
+    let e = start-of (c .before) in
+    let q = c .before .prime-of .result in
+    ⊎-elim
+    (λ (h : 2 ≤ e .args .count).
+    let small : q ≤ 257 = omega (arith, c .before .prime-of .ensures, e .pre .0 .room h .0) in
+    absurd (true≢false (sym (c .if1 .taken) ∙ ap₂ _||_ (le-ltb (e .args .count) 2 h) (le-ltb 257 q small))))
+    (λ (h : e .args .count < 2). omega (arith, e .pre .0 .some))
+    (le-or-lt 2 (e .args .count))
+
 product-row-requires : tie.Need-product-row-requires
 product-row-requires c κs =
-    let start = c .before .before .before .before .before .before .before in
+    let start = start-of (c .before .before .before) in
     let a = start .args in
-    let one : a .count ≡ 1 = omega arith in
+    let one = one-row (c .before .before) in
     (start .pre .1, start .pre .2, omega (arith, ap (λ (k : ℕ). k * a .inner) one), omega (arith, ap (λ (k : ℕ). k * length (a .sums .now)) one))
 
 same-length : tie.Need-same-length
@@ -26,9 +51,10 @@ same-length-2 c = search needs
 
 returns : tie.Need-returns
 returns c =
-    let start = c .before .before .before .before .before .before .before .before .before .before .before .before in
+    let then = c .before .before .before .before .before .before .before in
+    let start = start-of (then .before) in
     let a = start .args in
-    let one : 1 ≡ a .count = omega arith in
+    let one = sym (one-row then) in
     let inner : length (a .part .now) ≡ a .inner = omega (arith, ap (λ (k : ℕ). k * a .inner) one) in
     let columns : length (a .out .now) ≡ length (a .sums .now) = omega (arith, ap (λ (k : ℕ). k * length (a .sums .now)) one) in
     c .before .before .before .before .product-row .ensures
@@ -37,12 +63,13 @@ returns c =
 
 -- two rows that can be packed
 two : (c : tie.Else1)
-    → let a = c .before .before .before .before .before .args in
+    → let a = start-of (c .before) .args in
     (prime (a .modulus) ≤ 257) × (a .inner ≤ 127) × (2 ≡ a .count) × (length (a .part .now) ≡ 2 * a .inner) × (length (a .out .now) ≡ 2 * length (a .sums .now))
 two c =
-    let start = c .before .before .before .before .before in
+    let start = start-of (c .before) in
     let a = start .args in
-    let fit = start .pre .0 .room (omega arith) in
+    let enough : 2 ≤ a .count = ltb-false (a .count) 2 (or-left _ (ltb 257 (c .before .prime-of .result)) (c .if1 .left)) in
+    let fit = start .pre .0 .room enough in
     let both : 2 ≡ a .count = omega arith in
     (fit .0, fit .1, both, omega (arith, ap (λ (k : ℕ). k * a .inner) both), omega (arith, ap (λ (k : ℕ). k * length (a .sums .now)) both))
 
@@ -62,13 +89,13 @@ array-share-prefix-weights : tie.Need-array-share-prefix-weights
 array-share-prefix-weights c =
     let pack = c .before .before .before .before .before .before in
     let e = pack .before .before in
-    front-there (e .before .before .before .before .before .args .inner) (replicate 127 0) (pack .pack .last .1 .0) (c .before .before .before .before .before .weights2 .given) (two e .1)
+    front-there (start-of (e .before) .args .inner) (replicate 127 0) (pack .pack .last .1 .0) (c .before .before .before .before .before .weights2 .given) (two e .1)
 
 slice-aggregate-add-rows : tie.Need-slice-aggregate-add-rows
 slice-aggregate-add-rows c =
     let pack = c .before .before .before .before .before .before .before in
     let e = pack .before .before in
-    sym (length-take-le _ _ (front-there (e .before .before .before .before .before .args .inner) (replicate 127 0) (pack .pack .last .1 .0) (c .before .before .before .before .before .before .weights2 .given) (two e .1)))
+    sym (length-take-le _ _ (front-there (start-of (e .before) .args .inner) (replicate 127 0) (pack .pack .last .1 .0) (c .before .before .before .before .before .before .weights2 .given) (two e .1)))
 
 add-rows-requires : tie.Need-add-rows-requires
 add-rows-requires c κs = search needs
@@ -111,7 +138,7 @@ returns-2 c =
     let cleared = add .before .before .before .before .before in
     let pack = cleared .before .before .before in
     let t = two (pack .before .before) in
-    let start = pack .before .before .before .before .before .before .before in
+    let start = start-of (pack .before .before .before) in
     let a = start .args in
     two-rows (a .modulus) (a .inner) (a .part .now) (a .b .now) (t .0) (t .1) (t .3) (start .pre .1) (start .pre .2) (replicate 127 0) (pack .pack .last .1 .0) (a .sums .now) (cleared .clear .last .0)
     (add .add-rows .last .0) (lower .unpack .last .1 .1 .1 .0) (upper .unpack2 .last .1 .1 .1 .0) (a .out .now) (t .1) (cleared .before .before .weights2 .given) (pack .pack .ensures)
@@ -122,6 +149,7 @@ pub few-rows-spec : {M : Type 1} → statement M
 few-rows-spec =
     tie.close
     (tie.spec
+    prime-of-requires
     product-row-requires
     same-length
     same-length-2
