@@ -69,7 +69,8 @@ fn encode_refusal(modulus: Modulus, s: Side, xs: &[u32], masks: &[u32], room: us
 // Adds the blocks' part of row i of the block to the sums: each row of blocks has one row of the matrix in it.
 fn add_blocks(modulus: Modulus, s: Side, i: usize, weights: &[u32], xs: &[u32], sums: &mut [u64])
     requires { ⌜ Small s × i < s .«block_rows» × weightCount s ≤ length (now weights) × length (now xs) ≡ matrixLength s ⌝ }
-    ensures { λ _. let before = now (sums .entry) in let terms = blockTerms (prime modulus) s (now (weights .entry)) (now (xs .entry)) i in
+    ensures { λ _. let before = now (sums .entry) in let ws = now (weights .entry) in
+        let terms = blockTerms (prime modulus) s ws (now (xs .entry)) i in
         ⌜ now (sums .exit) ≡ tab (λ j. (getD before j 0 + terms j) % 2 ^ 64) (length before) ⌝ }
 {
     let grid_rows = s.grid_rows;
@@ -96,7 +97,8 @@ fn add_blocks(modulus: Modulus, s: Side, i: usize, weights: &[u32], xs: &[u32], 
 // Adds the masks' part of row i of the block to the sums: each mask has one row in it.
 fn add_masks(modulus: Modulus, s: Side, i: usize, weights: &[u32], masks: &[u32], sums: &mut [u64])
     requires { ⌜ Small s × i < s .«block_rows» × weightCount s ≤ length (now weights) × length (now masks) ≡ maskLength s ⌝ }
-    ensures { λ _. let before = now (sums .entry) in let terms = maskTerms (prime modulus) s (now (weights .entry)) (now (masks .entry)) i in
+    ensures { λ _. let before = now (sums .entry) in let ws = now (weights .entry) in
+        let terms = maskTerms (prime modulus) s ws (now (masks .entry)) i in
         ⌜ now (sums .exit) ≡ tab (λ j. (getD before j 0 + terms j) % 2 ^ 64) (length before) ⌝ }
 {
     let start = s.grid_rows * s.grid_columns;

@@ -111,12 +111,13 @@ loop-again c =
     let second = rest-more (a .source .now) (l .rest .now) (l .c * 2) (a .stride) (step .result) (l .inv .row) (step .ensures) in
     let third = rest-more (a .source .now) next (l .c * 2 + 1) (a .stride) (step2 .result) second (step2 .ensures) in
     let two : l .c * 2 + 1 + 1 ≡ (l .c + 1) * 2 = omega arith in
+    let product = row-entry (a .source .now) in
     record {
       is =
           pair .ensures
           ∙ pairs-more folded (length (a .weights .now)) (rowProduct (a .weights .now) (a .source .now) (a .stride)) (a .sums .now) (l .sums) (l .c) (l .inv .is)
-          (getD (a .weights .now) (l .c * 2) 0) (l .rest .now) (row-entry (a .source .now) (l .rest .now) (a .stride) (l .c * 2) (l .inv .row) (getD (a .weights .now) (l .c * 2) 0))
-          (omega arith) (getD (a .weights .now) (l .c * 2 + 1) 0) next (row-entry (a .source .now) next (a .stride) (l .c * 2 + 1) second (getD (a .weights .now) (l .c * 2 + 1) 0));
+          _ _ (product (l .rest .now) (a .stride) (l .c * 2) (l .inv .row) (getD (a .weights .now) (l .c * 2) 0))
+          (omega arith) _ _ (product next (a .stride) (l .c * 2 + 1) second (getD (a .weights .now) (l .c * 2 + 1) 0));
       row = third ∙ ap (λ (n : ℕ). drop (n * a .stride) (a .source .now)) two;
       short = rest-short (a .source .now) _ (l .c * 2 + 1 + 1) (a .stride) third;
       few = omega arith;
@@ -138,16 +139,20 @@ add-pair-requires-2 : tie.Need-add-pair-requires-2 Inv-loop μ-loop
 add-pair-requires-2 c κs = search needs
 
 -- the sums after an odd last row
-last : (c : tie.After-slice-known3 Inv-loop μ-loop) → let l = c .before .before .before .before .before .before .before in let a = l .before .before .before .before .args in
+last : (c : tie.After-slice-known3 Inv-loop μ-loop)
+    → let l = c .before .before .before .before .before .before .before in
+    let a = l .before .before .before .before .args in
     c .before .before .add-pair2 .last .0 ≡ sumsTo (a .sums .now) (terms (a .weights .now) (a .source .now) (a .stride)) (l .loop .c + 1)
 last c =
     let l = c .before .before .before .before .before .before .before in
     let a = l .before .before .before .before .args in
     let even : length (a .weights .now) / 2 ≡ l .loop .c = omega arith in
+    let weight : ℕ → ℕ = λ k. getD (a .weights .now) (k * 2) 0 in
+    let rest = l .loop .rest .now in
     c .before .before .add-pair2 .ensures
-    ∙ ap (λ (k : ℕ). pairedTwo folded (l .loop .sums) (getD (a .weights .now) (k * 2) 0) (l .loop .rest .now) 0 (l .loop .rest .now)) even
+    ∙ ap (λ (k : ℕ). pairedTwo folded (l .loop .sums) (weight k) rest 0 rest) even
     ∙ pairs-last folded (length (a .weights .now)) (rowProduct (a .weights .now) (a .source .now) (a .stride)) (a .sums .now) (l .loop .sums) (l .loop .c) (l .loop .inv .is)
-    (getD (a .weights .now) (l .loop .c * 2) 0) (l .loop .rest .now) (row-entry (a .source .now) (l .loop .rest .now) (a .stride) (l .loop .c * 2) (l .loop .inv .row) (getD (a .weights .now) (l .loop .c * 2) 0))
+    (weight (l .loop .c)) rest (row-entry (a .source .now) rest (a .stride) (l .loop .c * 2) (l .loop .inv .row) (weight (l .loop .c)))
     (omega arith)
 
 same-length : tie.Need-same-length Inv-loop μ-loop
