@@ -2,14 +2,17 @@
 --
 --   pairTerms               pair c in column j
 --   pairs-more, pairs-last  one pair more, and an odd last product
+--   fronts-enough           of a row no more elements matter than there are sums
 --   rowProduct              weight i times element j of row i: row i begins i strides into the source
 --   all-pairs               every pair
 use mathlib.Core.Path.{_≡_, refl, sym, ap₂, _∙_}
 use mathlib.Core.List.{List}
-use Prim.Native.Nat.{ℕ, _+_, _*_, _/_, _<_}
+use Prim.Native.Nat.{ℕ, _+_, _*_, _/_, _%_, _^_, _<_}
 use native.Mathlib.Omega.{arith}
-use lib.ListN.{length, getD}
+use lib.ListN.{length, getD, take}
+use lib.Seq.{getD-take}
 use Rattle.algebra.specs.Lists.{tab, entry}
+use Rattle.algebra.proofs.Grids.{tab-cong}
 use Rattle.sums.proofs.Steps.{sumsTo, sums-more}
 use Rattle.sums_folded.specs.Contracts.{pairAt, paired, pairedTwo, pairedCombination, pairedAdded}
 use Rattle.sums_folded.proofs.Pairs.{upTo-is, upTo-none}
@@ -36,6 +39,14 @@ module _ (term : ℕ → ℕ → ℕ) (n : ℕ) (f : ℕ → ℕ → ℕ) where
         ap₂ term
         (first j ∙ sym (upTo-is n (f j) (c * 2) (omega arith)))
         (none ∙ sym (upTo-none n (f j) (c * 2 + 1) (omega arith))))
+
+pub fronts-enough : (term : ℕ → ℕ → ℕ) (sums : List ℕ) (a : ℕ) (row : List ℕ) (b : ℕ) (next : List ℕ)
+    → let n = length sums in
+    pairedTwo term sums a (take n row) b (take n next) ≡ pairedTwo term sums a row b next
+unfolding pairedTwo
+fronts-enough term sums a row b next =
+    tab-cong _ _ (length sums) (λ j l.
+    ap₂ (λ (x y : ℕ). (getD sums j 0 + term (a * x) (b * y)) % 2 ^ 64) (getD-take (length sums) row j 0 l) (getD-take (length sums) next j 0 l))
 
 module _ (weights source : List ℕ) (stride : ℕ) where
   abbrev pub rowProduct : ℕ → ℕ → ℕ

@@ -1,8 +1,8 @@
 // Linear combinations of rows modulo 2^31 - 1, added to sums of 64 bits: two rows at a time, and each pair of products is folded,
 // since no more than four products of elements fit 64 bits.
 ghost use mathlib.Core.Path.{_≡_};
-ghost use Prim.Native.Nat.{_*_, _≤_};
-ghost use lib.ListN.{length, getD};
+ghost use Prim.Native.Nat.{_*_};
+ghost use lib.ListN.{getD};
 ghost use Rattle.sums_folded.specs.Contracts.{fold as Contracts·fold, folded, pairedTwo, pairedAdded};
 use std::num::wrapping_add_u64;
 use words::least;
@@ -29,20 +29,8 @@ fn element_at(row: &[u32], j: usize) -> u32
     if j < row.len() { row[j] } else { 0 }
 }
 
-// Adds two weights times their rows; the rows are as long as the sums, or longer.
+// Adds two weights times their rows.
 fn add_two_rows(sums: &mut [u64], weight: u32, row: &[u32], second: u32, next: &[u32])
-    requires { ⌜ (length (now sums) ≤ length (now row)) × (length (now sums) ≤ length (now next)) ⌝ }
-    ensures { λ _. ⌜ now (sums .exit) ≡ pairedTwo folded (now (sums .entry)) weight (now (row .entry)) second (now (next .entry)) ⌝ }
-{
-    let mut j = 0;
-    while j < sums.len() {
-        sums[j] = wrapping_add_u64(sums[j], pair_term(weight, row[j], second, next[j]));
-        j += 1;
-    }
-}
-
-// The same for rows of any length.
-fn add_any_rows(sums: &mut [u64], weight: u32, row: &[u32], second: u32, next: &[u32])
     ensures { λ _. ⌜ now (sums .exit) ≡ pairedTwo folded (now (sums .entry)) weight (now (row .entry)) second (now (next .entry)) ⌝ }
 {
     let mut j = 0;
@@ -55,14 +43,16 @@ fn add_any_rows(sums: &mut [u64], weight: u32, row: &[u32], second: u32, next: &
     }
 }
 
-// Adds two weights times their rows.
+// Adds two weights times their rows. Where both rows are as long as the sums, the compiler is told so: it then tests no index,
+// and does several elements at once.
 pub fn add_pair(sums: &mut [u64], weight: u32, row: &[u32], second: u32, next: &[u32])
     ensures { λ _. ⌜ now (sums .exit) ≡ pairedTwo folded (now (sums .entry)) weight (now (row .entry)) second (now (next .entry)) ⌝ }
 {
-    if (row.len() < sums.len()) | (next.len() < sums.len()) {
-        add_any_rows(sums, weight, row, second, next);
-    } else {
+    let n = sums.len();
+    if (row.len() < n) | (next.len() < n) {
         add_two_rows(sums, weight, row, second, next);
+    } else {
+        add_two_rows(sums, weight, &row[..n], second, &next[..n]);
     }
 }
 

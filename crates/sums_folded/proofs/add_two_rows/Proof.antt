@@ -1,5 +1,5 @@
 -- `sums_folded::add_two_rows` meets its contract.
-use mathlib.Core.Path.{_≡_, refl, ap, _∙_}
+use mathlib.Core.Path.{_≡_, refl, ap, ap₂, _∙_}
 use mathlib.Core.List.{List, _++_}
 use Prim.Native.Nat.{ℕ, _+_, _-_, _*_, _%_, _^_, _≤_}
 use native.Mathlib.Omega.{arith}
@@ -31,17 +31,11 @@ mul-wrapping-add-u64 c = omega arith
 slice-read-wrapping-add-u64 : tie.Need-slice-read-wrapping-add-u64 Inv-loop μ-loop
 slice-read-wrapping-add-u64 c = omega arith
 
-mul-pair-term : tie.Need-mul-pair-term Inv-loop μ-loop
-mul-pair-term c = omega arith
+element-at-requires : tie.Need-element-at-requires Inv-loop μ-loop
+element-at-requires c κs = search needs
 
-shared-slice-read-pair-term : tie.Need-shared-slice-read-pair-term Inv-loop μ-loop
-shared-slice-read-pair-term c = omega arith
-
-mul-pair-term-2 : tie.Need-mul-pair-term-2 Inv-loop μ-loop
-mul-pair-term-2 c = omega arith
-
-shared-slice-read-pair-term-2 : tie.Need-shared-slice-read-pair-term-2 Inv-loop μ-loop
-shared-slice-read-pair-term-2 c = omega arith
+element-at-requires-2 : tie.Need-element-at-requires-2 Inv-loop μ-loop
+element-at-requires-2 c κs = search needs
 
 pair-term-requires : tie.Need-pair-term-requires Inv-loop μ-loop
 pair-term-requires c κs = search needs
@@ -70,7 +64,8 @@ loop-again c =
     let old : getD (l .sums) (l .j) 0 ≡ getD (a .sums .now) (l .j) 0
     = ap (λ (xs : List ℕ). getD xs (l .j) 0) (l .inv .is) ∙ front-old f (a .sums .now) (l .j) (l .j) (omega arith) in
     let term : c .before .pair-term .result ≡ folded (a .weight * getD (a .row .now) (l .j) 0) (a .second * getD (a .next .now) (l .j) 0)
-    = c .before .pair-term .ensures in
+    = c .before .pair-term .ensures
+    ∙ ap₂ (λ (x y : ℕ). folded (a .weight * x) (a .second * y)) (c .before .before .before .element-at .ensures) (c .before .before .element-at2 .ensures) in
     let value : c .wrapping-add-u64 .result ≡ f (l .j) = omega (arith, c .wrapping-add-u64 .ensures, term, old) in
     record {
       is = ap (set (l .sums) (l .j)) value ∙ front-more f (a .sums .now) (l .sums) (l .j) (omega arith) (l .inv .is);
@@ -101,10 +96,8 @@ add-two-rows-spec =
     loop-holds
     mul-wrapping-add-u64
     slice-read-wrapping-add-u64
-    mul-pair-term
-    shared-slice-read-pair-term
-    mul-pair-term-2
-    shared-slice-read-pair-term-2
+    element-at-requires
+    element-at-requires-2
     pair-term-requires
     wrapping-add-u64-requires
     mul-sums
