@@ -7,9 +7,10 @@
 use mathlib.Core.Path.{_≡_, refl, ap, ap₂, _∙_}
 use mathlib.Core.Bool.{Bool, true, false, cond}
 use mathlib.Core.List.{List, _++_, append-nil}
-use Prim.Native.Nat.{ℕ, _+_, _-_, _*_, _%_, _≤_}
+use Prim.Native.Nat.{ℕ, _+_, _-_, _*_, _%_, _^_, _≤_}
 use native.Mathlib.Nat.{lt-of-lt-of-le}
 use native.Mathlib.Omega.{arith}
+use borrow.Author.Tests.{lt-leb}
 use lib.ListN.{length, getD, take, drop, length-append, length-take, length-drop, drop-of-length-le}
 use lib.Seq.{getD-take, getD-drop, length-take-le, length-front, take-at}
 use Rattle.algebra.specs.Lists.{tab, grid, entry, AllBelow}
@@ -23,7 +24,8 @@ use Rattle.field.specs.Modulus.{prime}
 use Rattle.sums.specs.Contracts.{zeros, reduced}
 use Rattle.sums.proofs.Reduced.{reduced-tab}
 use Rattle.sums_rows.specs.Contracts.{added as Rows·added}
-use Rattle.sums_modular.specs.Contracts.{combination, added}
+use Rattle.sums_modular.specs.Contracts.{large, combination, added}
+use Rattle.sums_modular.proofs.Picked.{added-small}
 use Rattle.sums_modular.proofs.Exact.{combination-≈, combination-fits, added-zeros}
 use Rattle.sums_packed.specs.Contracts.{packed, halves}
 use Rattle.sums_packed.proofs.Exact.{dot, halves-exact}
@@ -77,11 +79,15 @@ module _ (m : Modulus) (inner : ℕ) (pair b : List ℕ) (small : prime m ≤ 25
       (halves-exact pair b inner n len few (λ i l. lt-of-lt-of-le (below-pair i l) small) (λ i l. lt-of-lt-of-le (below-b i l) small) weights sums upper same)
       ∙ reduced-tab (prime m) n (dot pair b inner n len (cond upper 1 0)) out size
 
+  not-large : large (prime m) ≡ false
+  unfolding large
+  not-large = lt-leb (2 ^ 26) (prime m) (omega arith)
+
   -- the weights, the sums and the rows, one made from the other
   pub two-rows : (empty weights sums cleared made first second out : List ℕ) → inner ≤ length empty → length weights ≡ length (take inner empty)
       → weights ≡ packed pair (take inner empty)
       → cleared ≡ zeros sums
-      → made ≡ Rows·added cleared (take inner (weights ++ drop inner empty)) b (length sums)
+      → made ≡ added (prime m) cleared (take inner (weights ++ drop inner empty)) b (length sums)
       → length out ≡ 2 * length sums
       → first ≡ reduced (prime m) (halves false made) (take (length sums) out)
       → let w = written (length sums) first out in
@@ -93,7 +99,7 @@ module _ (m : Modulus) (inner : ℕ) (pair b : List ℕ) (small : prime m ≤ 25
       let thin : length (take inner empty) ≡ inner = length-take-le inner empty wide in
       let lent : take inner (weights ++ drop inner empty) ≡ packed pair (take inner empty)
       = take-at weights (drop inner empty) inner (same ∙ thin) ∙ is-weights in
-      let sums-are = is-made ∙ ap₂ (λ (s w : List ℕ). Rows·added s w b n) is-cleared lent in
+      let sums-are = is-made ∙ added-small (prime m) not-large cleared (take inner (weights ++ drop inner empty)) b n ∙ ap₂ (λ (s w : List ℕ). Rows·added s w b n) is-cleared lent in
       let low : first ≡ tab (λ j. productEntry inner n pair b 0 j % prime m) n
       = is-first ∙ ap (λ (xs : List ℕ). reduced (prime m) (halves false xs) (take n out)) sums-are
       ∙ half-exact false (take inner empty) sums (take n out) thin (length-take-le n out (omega arith)) in

@@ -102,7 +102,7 @@ fn few_rows(
     let mut weights = [0u32; MOST_PACKED];
     sums_packed::pack(part, &mut weights[..inner]);
     sums::clear(sums);
-    sums_rows::add_rows(sums, &weights[..inner], b, columns);
+    sums_modular::add_rows(modulus, sums, &weights[..inner], b, columns);
     sums_packed::unpack(modulus, false, sums, &mut out[..columns]);
     sums_packed::unpack(modulus, true, sums, &mut out[columns..]);
 }

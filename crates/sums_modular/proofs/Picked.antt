@@ -3,6 +3,7 @@
 --   when-large    terms of a large prime are folded
 --   when-small    terms of another are the sums of both products
 --   one-plain, two-plain, all-plain    sums to which rows are added without folding
+--   added-small   so rows are added where the prime is not large
 use mathlib.Core.Path.{_≡_, sym, ap, _∙_}
 use mathlib.Core.Bool.{Bool, true, false, cond}
 use mathlib.Core.List.{List}
@@ -15,7 +16,7 @@ use Rattle.algebra.proofs.Grids.{tab-cong}
 use Rattle.sums_rows.specs.Contracts.{plus, combination as Rows·combination, added as Rows·added}
 use Rattle.sums_folded.specs.Contracts.{folded, pairedTwo, pairedCombination, pairedAdded}
 use Rattle.sums_folded.proofs.Pairs.{pairs-all}
-use Rattle.sums_modular.specs.Contracts.{large, pairTerm}
+use Rattle.sums_modular.specs.Contracts.{large, pairTerm, added}
 
 module _ (q : ℕ) where
   pub when-large : large q ≡ true → pairTerm q ≡ folded
@@ -46,3 +47,7 @@ unfolding Rows·added Rows·combination pairedAdded pairedCombination
 all-plain sums weights source stride =
     tab-cong _ _ (length sums) (λ j l.
     ap (λ (x : ℕ). (getD sums j 0 + x) % 2 ^ 64) (sym (pairs-all (length weights) (λ i. getD weights i 0 * entry stride source i j))))
+
+pub added-small : (q : ℕ) → large q ≡ false → (sums weights source : List ℕ) (stride : ℕ) → added q sums weights source stride ≡ Rows·added sums weights source stride
+added-small q e sums weights source stride =
+    ap (λ (term : ℕ → ℕ → ℕ). pairedAdded term sums weights source stride) (when-small q e) ∙ sym (all-plain sums weights source stride)

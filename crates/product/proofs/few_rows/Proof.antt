@@ -141,7 +141,7 @@ returns-2 c =
     let start = start-of (pack .before .before .before) in
     let a = start .args in
     two-rows (a .modulus) (a .inner) (a .part .now) (a .b .now) (t .0) (t .1) (t .3) (start .pre .1) (start .pre .2) (replicate 127 0) (pack .pack .last .1 .0) (a .sums .now) (cleared .clear .last .0)
-    (add .add-rows .last .0) (lower .unpack .last .1 .1 .1 .0) (upper .unpack2 .last .1 .1 .1 .0) (a .out .now) (t .1) (cleared .before .before .weights2 .given) (pack .pack .ensures)
+    (add .add-rows .last .1 .0) (lower .unpack .last .1 .1 .1 .0) (upper .unpack2 .last .1 .1 .1 .0) (a .out .now) (t .1) (cleared .before .before .weights2 .given) (pack .pack .ensures)
     (cleared .clear .ensures) (add .add-rows .ensures) (t .4) (lower .unpack .ensures) (upper .unpack2 .ensures)
     ∙ ap (λ (k : ℕ). productOf (prime (a .modulus)) k (a .inner) (length (a .sums .now)) (a .part .now) (a .b .now)) (t .2)
 
