@@ -5,7 +5,7 @@
 --   pairs-all             where a term is the sum of both, the pairs have every number
 --   paired-≈              where it is that sum modulo q, the paired sum is the sum modulo q
 --   paired-bound          where each term is at most b
-use mathlib.Core.Path.{_≡_, refl, sym, ap, _∙_}
+use mathlib.Core.Path.{_≡_, sym, ap, _∙_}
 use mathlib.Core.Bool.{Bool, cond}
 use mathlib.Core.Logic.{⊎-elim}
 use Prim.Native.Nat.{ℕ, suc, _+_, _*_, _/_, _<_, _≤_}

@@ -11,7 +11,7 @@ use Prim.Native.Nat.{ℕ, _+_, _*_, _/_, _%_, _^_, _<_}
 use native.Mathlib.Omega.{arith}
 use lib.ListN.{length, getD, take}
 use lib.Seq.{getD-take}
-use Rattle.algebra.specs.Lists.{tab, entry}
+use Rattle.algebra.specs.Lists.{entry}
 use Rattle.algebra.proofs.Grids.{tab-cong}
 use Rattle.sums.proofs.Steps.{sumsTo, sums-more}
 use Rattle.sums_folded.specs.Contracts.{pairAt, paired, pairedTwo, pairedCombination, pairedAdded}

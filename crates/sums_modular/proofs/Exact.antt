@@ -6,17 +6,17 @@
 --   term-≈, term-bound   two products of numbers below q, as one term: the same modulo q, and small
 --   total-≈, total-bound many of them
 --   total-fits           as many as a block has elements fit 64 bits
---   products-small       products of elements
+--   product-small        a product of two elements
 --   combination-≈, combination-bound, combination-fits   the same of weights times rows
 --   added-zeros          from sums that are all 0: the combinations themselves, where they fit
-use mathlib.Core.Path.{_≡_, refl, sym, ap, _∙_, subst}
+use mathlib.Core.Path.{_≡_, ap, subst}
 use mathlib.Core.Bool.{Bool, true, false, not, _&&_, _||_}
 use mathlib.Core.List.{List}
 use mathlib.Core.Logic.{⊎-elim}
 use Prim.Native.Nat.{ℕ, _+_, _*_, _/_, _%_, _^_, _-_, _<_, _≤_}
 use native.Mathlib.Nat.{le-of-lt, mul-le-mul}
 use native.Mathlib.Omega.{arith}
-use lib.Dec.{T, ltb, eqb, leb, ltb→lt, eqb→eq}
+use lib.Dec.{T, ltb, eqb, ltb→lt, eqb→eq}
 use lib.ListN.{length, getD}
 use borrow.Author.Tests.{leb-false}
 use Rattle.algebra.specs.Lists.{tab, entry, AllBelow}
