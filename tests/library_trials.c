@@ -184,7 +184,7 @@ static uint32_t one_trial(uint32_t trial, uint8_t *rooms[3])
 /* The numbers that a call can return, each with the least count of trials that must get it. */
 static const struct {
     uint32_t number, least;
-} floors[] = {{0, 28800}, {1, 6150}, {2, 32900}, {6, 4050}, {13, 26400}, {14, 1450}};
+} floors[] = {{0, 28849}, {1, 6183}, {2, 32924}, {6, 4073}, {13, 26485}, {14, 1486}};
 
 /* Prints the counts; 1 where one is below its floor. */
 static int below_floors(const uint32_t *counts)
