@@ -8,6 +8,7 @@ ghost use Rattle.algebra.specs.Polynomials.{addRoot};
 ghost use Rattle.field.specs.Modulus.{prime};
 ghost use Rattle.decode_basis.specs.Contracts.{coefficients, rootProduct, quotient, basisScale};
 use field::Modulus;
+use words::element_at;
 use words::wide_product;
 
 // The polynomial 1, in as many coefficients as have room.
@@ -60,13 +61,6 @@ pub fn from_roots(modulus: Modulus, points: &[u32], out: &mut [u32])
     }
 }
 
-// A coefficient: past the last one stands 0.
-fn coefficient(cs: &[u32], e: usize) -> u32
-    ensures { λ r. ⌜ r ≡ getD (now (cs .entry)) e 0 ⌝ }
-{
-    if e < cs.len() { cs[e] } else { 0 }
-}
-
 // The quotient of a polynomial by (X - x). It has as many coefficients as have room, and the polynomial one more: what it has
 // past that is not looked at.
 pub fn divide_root(modulus: Modulus, cs: &[u32], x: u32, out: &mut [u32])
@@ -75,7 +69,7 @@ pub fn divide_root(modulus: Modulus, cs: &[u32], x: u32, out: &mut [u32])
     let mut value = 0;
     let mut e = out.len();
     while 0 < e {
-        value = plus_product(modulus, coefficient(cs, e), x, value);
+        value = plus_product(modulus, element_at(cs, e), x, value);
         e -= 1;
         out[e] = value;
     }

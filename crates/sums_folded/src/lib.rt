@@ -2,9 +2,9 @@
 // since no more than four products of elements fit 64 bits.
 ghost use mathlib.Core.Path.{_≡_};
 ghost use Prim.Native.Nat.{_*_};
-ghost use lib.ListN.{getD};
 ghost use Rattle.sums_folded.specs.Contracts.{fold as Contracts·fold, folded, pairedTwo, pairedAdded};
 use std::num::wrapping_add_u64;
+use words::element_at;
 use words::least;
 use words::wide_product;
 
@@ -20,13 +20,6 @@ fn pair_term(a: u32, x: u32, b: u32, y: u32) -> u64
     ensures { λ r. ⌜ r ≡ folded (a * x) (b * y) ⌝ }
 {
     fold(wrapping_add_u64(wide_product(a, x), wide_product(b, y)))
-}
-
-// An element of a row: past the last one stands 0.
-fn element_at(row: &[u32], j: usize) -> u32
-    ensures { λ r. ⌜ r ≡ getD (now (row .entry)) j 0 ⌝ }
-{
-    if j < row.len() { row[j] } else { 0 }
 }
 
 // Adds two weights times their rows.

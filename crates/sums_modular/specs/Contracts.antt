@@ -1,7 +1,7 @@
 -- Sums of products of elements modulo each prime, in 64 bits: folded where the prime is large.
 -- The rows lie in one list, the source, each a stride after the one before; a list reads as 0 past its end.
 --
---   large q                               == 4096 products of numbers below q need not fit 64 bits
+--   large q                               == 4096 products of numbers up to q do not fit 64 bits
 --   pairTerm q x y                        == two products as one number: their sum, folded where q is large
 --   total q n f                           == f 0 + .. + f (n - 1), pair by pair
 --   combination q weights source stride j == the sum over i of weight i times element j of row i, pair by pair

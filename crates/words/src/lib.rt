@@ -1,6 +1,7 @@
 // Machine words: the leaf operations on numbers that the crates above share.
 ghost use mathlib.Core.Path.{_≡_};
 ghost use Prim.Native.Nat.{_+_, _*_, _%_, min};
+ghost use lib.ListN.{getD};
 
 // The smaller of two numbers.
 pub fn least(a: usize, b: usize) -> usize
@@ -35,4 +36,11 @@ pub fn low_byte(x: u32) -> u8
     ensures { λ r. ⌜ r ≡ x % 256 ⌝ }
 {
     (x % 256) as u8
+}
+
+// An element of a list: past the last one stands 0.
+pub fn element_at(xs: &[u32], i: usize) -> u32
+    ensures { λ r. ⌜ r ≡ getD (now (xs .entry)) i 0 ⌝ }
+{
+    if i < xs.len() { xs[i] } else { 0 }
 }

@@ -35,8 +35,8 @@ loop-holds c =
       same = refl;
     }
 
-coefficient-requires : tie.Need-coefficient-requires Inv-loop μ-loop
-coefficient-requires c κs = search needs
+element-at-requires : tie.Need-element-at-requires Inv-loop μ-loop
+element-at-requires c κs = search needs
 
 plus-product-requires : tie.Need-plus-product-requires Inv-loop μ-loop
 plus-product-requires c κs = search needs
@@ -63,7 +63,7 @@ loop-again c =
     let f = after q (a .x) (a .cs .now) n in
     let value : c .plus-product .result ≡ f (e - 1)
     = c .plus-product .ensures
-    ∙ ap (λ (k : ℕ). (k + a .x * l .loop .value) % q) (c .before .coefficient .ensures)
+    ∙ ap (λ (k : ℕ). (k + a .x * l .loop .value) % q) (c .before .element-at .ensures)
     ∙ after-more q (a .x) (a .cs .now) n (l .loop .value) e (omega arith) (omega arith) (l .loop .inv .last) in
     record {
       is =
@@ -91,7 +91,7 @@ divide-root-spec =
     Inv-loop
     μ-loop
     loop-holds
-    coefficient-requires
+    element-at-requires
     plus-product-requires
     sub-e
     mul-out

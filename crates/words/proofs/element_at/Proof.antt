@@ -1,9 +1,9 @@
--- `sums_folded::element_at` meets its contract.
+-- `words::element_at` meets its contract.
 use mathlib.Core.Path.{sym}
 use lib.ListN.{List·getD-eq-default}
 use borrow.Author.Needs.{needs}
-use Rattle.sums_folded.proofs.element_at.Statement.{statement}
-use Rattle.sums_folded.proofs.element_at.Tie as tie
+use Rattle.words.proofs.element_at.Statement.{statement}
+use Rattle.words.proofs.element_at.Tie as tie
 
 mul-result : tie.Need-mul-result
 mul-result c = search needs
@@ -15,7 +15,7 @@ returns : tie.Need-returns
 returns c = search needs
 
 returns-2 : tie.Need-returns-2
-returns-2 c = sym (List·getD-eq-default (c .before .args .row .now) 0 (c .if1 .left))
+returns-2 c = sym (List·getD-eq-default (c .before .args .xs .now) 0 (c .if1 .left))
 
 pub element-at-spec : {M : Type 1} → statement M
 element-at-spec = tie.close (tie.spec mul-result shared-slice-read-result returns returns-2)
