@@ -76,18 +76,20 @@ pub fn multiply(modulus: Modulus, a: u32, b: u32) -> u32
     reduce(modulus, words::wide_product(a, b))
 }
 
-// x to the exponent, modulo the prime, by halving the exponent.
+// x to the exponent, modulo the prime, by halving the exponent: each step squares the base, and takes it as a factor where what is
+// left of the exponent is odd.
 pub fn power(modulus: Modulus, x: u32, exponent: u32) -> u32
     ensures { λ r. ⌜ r ≡ x ^ exponent % prime modulus ⌝ }
 {
-    if exponent == 0 {
-        return 1;
+    let mut product = 1;
+    let mut base = x;
+    let mut rest = exponent;
+    while 0 < rest {
+        if rest % 2 == 1 {
+            product = multiply(modulus, product, base);
+        }
+        base = multiply(modulus, base, base);
+        rest /= 2;
     }
-    let half = power(modulus, x, exponent / 2);
-    let square = multiply(modulus, half, half);
-    if exponent % 2 == 0 {
-        square
-    } else {
-        multiply(modulus, square, x)
-    }
+    product
 }
