@@ -1,5 +1,5 @@
 -- Laws of the lister's text.
-pub mod Writes
+pub mod Lines
 pub mod Strides
 pub mod Room
 pub mod Replies

@@ -23,11 +23,12 @@ use Rattle.plan.specs.declared.Job.{Job}
 use Rattle.plan.specs.declared.Planned.the-variants.{Accepted, Refused}
 use Rattle.plan.specs.Planning.{parameters, modulusOf, layoutOf, neededOf, planTests, planOf, planned}
 use Rattle.plan.proofs.Facts.{Fits, facts}
+use Rattle.text.specs.Ascii.{ascii}
 use Rattle.text.specs.Decimal.{decimal}
 use Rattle.text.proofs.Decimals.{decimal-length, decimal-short}
 use Rattle.lister_line.specs.Line.{lineOf}
-use Rattle.lister.specs.Listing.{ascii, value, values, line, sideLine, numberLines, aLine, bLine, cLine, planText, refusedText, jobOf, replyText, reply, listing, listingRoom}
-use Rattle.lister.proofs.Writes.{row-more, grid-more, line-one}
+use Rattle.lister.specs.Listing.{value, values, line, sideLine, numberLines, aLine, bLine, cLine, planText, refusedText, jobOf, replyText, reply, listing, listingRoom}
+use Rattle.lister.proofs.Lines.{row-more, grid-more, line-one}
 
 value-length : (n : ℕ) → n < 100000 → length (value n) ≤ 6
 unfolding value

@@ -16,8 +16,9 @@ use Rattle.layout.specs.declared.Strides.{Strides}
 use Rattle.layout.specs.Exponents.{Exponents, term}
 use Rattle.layout.specs.Contracts.{exponentBy, Follows}
 use Rattle.layout.proofs.Nests.{exponent-is}
+use Rattle.text.specs.Ascii.{ascii}
 use Rattle.lister.specs.declared.SideLine.{SideLine}
-use Rattle.lister.specs.Listing.{ascii, line, sideLine}
+use Rattle.lister.specs.Listing.{line, sideLine}
 use Rattle.lister.specs.Contracts.{sideText, placesText}
 
 module _ {s : Strides} {g : Parameters} {e : Exponents} (f : Follows s g e) where

@@ -1,34 +1,25 @@
--- Text written into a buffer, as a fact of the buffer before and after; and the lines of a plan by its strides.
+-- A listing in its buffer, as a fact of the buffer before and after; and the lines of a plan by its strides.
 --
 --   Lists before text after end    == where a listing's buffer has room for the text, `after` is `before` with the text at its
 --                                     front, and `end` is the text's length; in any case `end` does not leave the buffer
---   Writes before at text after end == where the text has room from offset `at` on, `after` is `before` with the text there,
---                                     and `end` is the offset behind it; in any case the length is kept, and the offset does
---                                     not leave the buffer
 --   sideText line s                == the line of a side, by the strides s
 --   placesText s rows columns      == the line of C, by the strides s
 use mathlib.Core.Path.{_≡_}
 use mathlib.Core.List.{List, [], _∷_, _++_}
-use Prim.Native.Nat.{ℕ, _+_, _≤_}
+use Prim.Native.Nat.{ℕ, _≤_}
 use lib.ListN.{length, drop}
 use Rattle.algebra.specs.Lists.{tab, grid}
 use Rattle.layout.specs.declared.Strides.{Strides}
 use Rattle.layout.specs.declared.Series.the-variants.{Places}
 use Rattle.layout.specs.Contracts.{exponentBy}
-use Rattle.text.specs.Contracts.{put}
+use Rattle.text.specs.Ascii.{ascii}
 use Rattle.lister.specs.declared.SideLine.{SideLine}
-use Rattle.lister.specs.Listing.{ascii, line, sideLine, listingRoom}
+use Rattle.lister.specs.Listing.{line, sideLine, listingRoom}
 
 pub record Lists (before text after : List ℕ) (end : ℕ) : Type 0 where
   pub within : end ≤ length after
   pub is : length text ≤ listingRoom → after ≡ text ++ drop (length text) before
   pub long : length text ≤ listingRoom → end ≡ length text
-
-pub record Writes (before : List ℕ) (at : ℕ) (text after : List ℕ) (end : ℕ) : Type 0 where
-  pub kept : length after ≡ length before
-  pub within : at ≤ length before → end ≤ length before
-  pub is : at + length text ≤ length before → after ≡ put before at text
-  pub behind : at + length text ≤ length before → end ≡ at + length text
 
 unfoldable pub sideText : SideLine → Strides → List ℕ
 sideText l s =

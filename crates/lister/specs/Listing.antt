@@ -1,6 +1,5 @@
 -- The plan lister (01, "The plan lister").
 --
---   ascii s                     == the bytes of a text
 --   value n, values ns          == a number in decimal after a space, and numbers so
 --   line label ns               == a line: its label, then its values
 --   sideLine label blocks masks == the line of a side: the exponents of its blocks, a bar, then those of its masks
@@ -16,8 +15,6 @@
 use mathlib.Core.Bool.{cond}
 use mathlib.Core.List.{List, [], _∷_, _++_}
 use Prim.Native.Nat.{ℕ, suc}
-use Prim.Native.Char.{code}
-use Prim.Native.String.{String}
 use lib.ListN.{getD}
 use Rattle.algebra.specs.Lists.{tab, grid}
 use Rattle.field.specs.Modulus.{prime}
@@ -29,13 +26,10 @@ use Rattle.plan.specs.declared.Plan.{Plan}
 use Rattle.plan.specs.declared.Planned.{Planned}
 use Rattle.plan.specs.declared.Planned.the-variants.{Accepted, Refused}
 use Rattle.plan.specs.Planning.{planned}
+use Rattle.text.specs.Ascii.{ascii}
 use Rattle.text.specs.Decimal.{decimal}
 use Rattle.lister_line.specs.Line.{lineOf}
 use Rattle.layout.specs.declared.Series.the-variants.{BlocksA, MasksA, BlocksB, MasksB, Places}
-
-abbrev pub ascii : String → List ℕ
-ascii String.[] = []
-ascii (String._∷_ c s) = code c ∷ ascii s
 
 unfoldable pub value : ℕ → List ℕ
 value n = ascii " " ++ decimal n

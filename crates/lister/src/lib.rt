@@ -8,6 +8,7 @@ ghost use Rattle.algebra.specs.Lists.{tab, grid};
 ghost use Rattle.layout.specs.Exponents.{number};
 ghost use Rattle.layout.specs.Contracts.{exponentBy};
 ghost use Rattle.plan.specs.Planning.{planned};
+ghost use Rattle.text.specs.Contracts.{Writes};
 ghost use Rattle.lister.specs.Listing.{
   value,
   values,
@@ -18,7 +19,7 @@ ghost use Rattle.lister.specs.Listing.{
   jobOf,
   listing,
 };
-ghost use Rattle.lister.specs.Contracts.{Lists, Writes, sideText, placesText};
+ghost use Rattle.lister.specs.Contracts.{Lists, sideText, placesText};
 use layout::Layout;
 use layout::Series;
 use layout::Strides;

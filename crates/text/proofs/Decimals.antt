@@ -2,22 +2,23 @@
 --
 --   spell-last, spell-more          the digits of a number of one digit, and of a larger one
 --   tenth                           a digit less is a power of ten less
---   decimal-length                  a number has at most ten digits
+--   decimal-length, decimal-some    a number has at most ten digits, and at least one
 --   decimal-short                   a number below 100000 has at most 5
---   decimal-one, decimal-more       a number of one digit, and one with a digit more
+--   decimal-one                     a number of one digit
+--   decimal-tens, decimal-more      a larger one: its last digit after those of its tenth, and a digit after others
 --   numerals                        the digits of a number of at most ten digits: the statement of specs/Numerals.antt
---   Digits                          the last digits of n, from index `start` + 1 on, and the rest of n
+--   Digits                          the last digits of n at the end of a buffer, from index `start` + 1 on, and the rest of n
 --   digits-start, digits-more       none of them, and one more
 --   digits-room                     there is room for one more
---   digits-last                     the first digit of n makes them whole
+--   digits-last, digits-first       the first digit of n makes them whole, and where it stands
 use mathlib.Core.Path.{_≡_, refl, sym, ap, _∙_, subst}
 use mathlib.Core.Logic.{⊎-elim}
 use mathlib.Core.List.{List, [], _∷_, _++_, append-nil}
 use Prim.Native.Nat.{ℕ, zero, suc, _+_, _-_, _*_, _/_, _%_, _^_, _<_, _≤_}
 use native.Mathlib.Nat.{pow-suc, le-refl}
 use native.Mathlib.Omega.{arith}
-use lib.ListN.{length, getD, List·getD-append, take, drop, set, replicate, length-append, length-drop, length-set}
-use lib.Seq.{take-all, drop-cons, drop-set-lt, getD-set-same, getD-at, append-snoc}
+use lib.ListN.{length, getD, List·getD-append, take, drop, set, length-append, length-drop, length-set, drop-of-length-le}
+use lib.Seq.{getD-at, append-snoc, set-split, drop-at, take-set-le, take-take, length-take-le}
 use borrow.Author.Tests.{lt-ltb, le-ltb}
 use Rattle.algebra.proofs.Orders.{le-or-lt}
 use Rattle.text.specs.Decimal.{digit, spell, decimal}
@@ -65,6 +66,10 @@ pub decimal-length : (n : ℕ) → length (decimal n) ≤ 10
 unfolding decimal
 decimal-length n = spell-most 10 n
 
+pub decimal-some : (n : ℕ) → 1 ≤ length (decimal n)
+unfolding decimal
+decimal-some n = spell-positive 9 n
+
 pub decimal-short : (n : ℕ) → n < 100000 → length (decimal n) ≤ 5
 unfolding decimal
 decimal-short n h = spell-length 10 4 n h
@@ -84,15 +89,17 @@ pub decimal-one : (n : ℕ) → n < 10 → decimal n ≡ digit n ∷ []
 unfolding decimal
 decimal-one n h = spell-last 9 n h
 
-pub decimal-more : (v d : ℕ) → 0 < v → v < 10 ^ 9 → d < 10 → decimal (v * 10 + d) ≡ decimal v ++ (digit d ∷ [])
+pub decimal-tens : (n : ℕ) → 10 ≤ n → n < 10 ^ 10 → decimal n ≡ decimal (n / 10) ++ (digit (n % 10) ∷ [])
 unfolding decimal
+decimal-tens n b h = spell-more 9 n b ∙ ap (λ (xs : List ℕ). xs ++ (digit (n % 10) ∷ [])) (spell-room 8 (n / 10) (tenth 9 n h))
+
+pub decimal-more : (v d : ℕ) → 0 < v → v < 10 ^ 9 → d < 10 → decimal (v * 10 + d) ≡ decimal v ++ (digit d ∷ [])
 decimal-more v d pos small one =
     let front : (v * 10 + d) / 10 ≡ v = omega arith in
     let end : (v * 10 + d) % 10 ≡ d = omega arith in
-    spell-more 9 (v * 10 + d) (omega arith)
-    ∙ ap (λ (k : ℕ). spell 9 k ++ (digit ((v * 10 + d) % 10) ∷ [])) front
-    ∙ ap (λ (k : ℕ). spell 9 v ++ (digit k ∷ [])) end
-    ∙ ap (λ (xs : List ℕ). xs ++ (digit d ∷ [])) (spell-room 8 v small)
+    decimal-tens (v * 10 + d) (omega arith) (omega arith)
+    ∙ ap (λ (k : ℕ). decimal k ++ (digit ((v * 10 + d) % 10) ∷ [])) front
+    ∙ ap (λ (k : ℕ). decimal v ++ (digit k ∷ [])) end
 
 -- every byte is a digit
 abbrev Digital : List ℕ → Type 0
@@ -154,51 +161,70 @@ numerals n h = record {
   leads = λ pos. spell-leads 9 n pos h;
 }
 
-pub record Digits (n : ℕ) (digits : List ℕ) (start rest : ℕ) : Type 0 where
-  pub whole : length digits ≡ 10
-  pub within : start < 10
-  pub small : rest < 10 ^ suc start
-  pub is : spell (suc start) rest ++ drop (suc start) digits ≡ decimal n
+-- a byte stored, and those behind it
+stored : (bytes : List ℕ) (i v : ℕ) → i < length bytes → drop i (set bytes i v) ≡ v ∷ drop (suc i) bytes
+stored bytes i v h =
+    ap (drop i) (set-split bytes i v h) ∙ drop-at (take i bytes) (v ∷ drop (suc i) bytes) i (length-take-le i bytes (omega arith))
 
--- one digit stored
-stored : (digits : List ℕ) (start d : ℕ) → start < length digits → drop start (set digits start d) ≡ d ∷ drop (suc start) digits
-stored digits start d h =
-    drop-cons (set digits start d) start 0 (subst (λ (k : ℕ). start < k) (sym (length-set digits start d)) h)
-    ∙ ap (λ (x : ℕ). x ∷ drop (suc start) (set digits start d)) (getD-set-same digits start d 0 h)
-    ∙ ap (λ (xs : List ℕ). d ∷ xs) (drop-set-lt (suc start) digits start d (le-refl (suc start)))
+pub record Digits (n : ℕ) (was bytes : List ℕ) (start rest : ℕ) : Type 0 where
+  pub room : length (decimal n) ≤ length was
+  pub same : length bytes ≡ length was
+  pub within : start < length was
+  pub small : rest < 2 ^ 32
+  pub kept : take start bytes ≡ take start was
+  pub is : decimal rest ++ drop (suc start) bytes ≡ decimal n
 
-pub digits-start : (n : ℕ) → n < 2 ^ 32 → Digits n (replicate 10 48) 9 n
-unfolding decimal
-digits-start n h = record { whole = refl; within = omega arith; small = omega arith; is = append-nil (spell 10 n) }
+pub digits-start : (n : ℕ) (was : List ℕ) → n < 2 ^ 32 → length (decimal n) ≤ length was → Digits n was was (length was - 1) n
+digits-start n was h room = record {
+  room = room;
+  same = refl;
+  within = omega (arith, decimal-some n);
+  small = h;
+  kept = refl;
+  is = ap (λ (xs : List ℕ). decimal n ++ xs) (drop-of-length-le was {i = suc (length was - 1)} (omega arith)) ∙ append-nil (decimal n);
+}
 
-module _ {n : ℕ} {digits : List ℕ} {start rest : ℕ} (d : Digits n digits start rest) where
+module _ {n : ℕ} {was bytes : List ℕ} {start rest : ℕ} (d : Digits n was bytes start rest) where
+  -- the rest has room
+  left : length (decimal rest) ≤ suc start
+  left =
+      omega (arith, ap length (d .is), length-append (decimal rest) (drop (suc start) bytes), length-drop (suc start) bytes, d .room, d .same, d .within)
+
   pub digits-room : 10 ≤ rest → 0 < start
-  digits-room b = go start (d .small)
-    where
-      go : (s : ℕ) → rest < 10 ^ suc s → 0 < s
-      go zero h = omega arith
-      go (suc s) h = omega arith
+  digits-room b =
+      let tens = ap length (decimal-tens rest b (omega (arith, d .small))) in
+      omega (arith, left, tens, length-append (decimal (rest / 10)) (digit (rest % 10) ∷ []), decimal-some (rest / 10))
 
-  pub digits-more : 10 ≤ rest → Digits n (set digits start (digit (rest % 10))) (start - 1) (rest / 10)
+  pub digits-more : 10 ≤ rest → Digits n was (set bytes start (digit (rest % 10))) (start - 1) (rest / 10)
   digits-more b =
-      let e : suc (start - 1) ≡ start = omega (arith, digits-room b) in
       let v : ℕ = digit (rest % 10) in
+      let here : start < length bytes = omega (arith, d .within, d .same) in
+      let e : suc (start - 1) ≡ start = omega (arith, digits-room b) in
+      let before : take start (set bytes start v) ≡ take start was = take-set-le start bytes start v (le-refl start) ∙ d .kept in
       record {
-        whole = length-set digits start v ∙ d .whole;
+        room = d .room;
+        same = length-set bytes start v ∙ d .same;
         within = omega (arith, d .within);
-        small = subst (λ (k : ℕ). rest / 10 < 10 ^ k) (sym e) (tenth start rest (d .small));
+        small = omega (arith, d .small);
+        kept =
+            sym (take-take (start - 1) start (set bytes start v) (omega arith))
+            ∙ ap (take (start - 1)) before
+            ∙ take-take (start - 1) start was (omega arith);
         is =
-            subst (λ (k : ℕ). spell k (rest / 10) ++ drop k (set digits start v) ≡ decimal n) (sym e)
-            (ap (λ (xs : List ℕ). spell start (rest / 10) ++ xs) (stored digits start v (omega (arith, d .within, d .whole)))
-            ∙ sym (append-snoc (spell start (rest / 10)) v (drop (suc start) digits))
-            ∙ ap (λ (xs : List ℕ). xs ++ drop (suc start) digits) (sym (spell-more start rest b))
-            ∙ d .is);
+            ap (λ (k : ℕ). decimal (rest / 10) ++ drop k (set bytes start v)) e
+            ∙ ap (λ (xs : List ℕ). decimal (rest / 10) ++ xs) (stored bytes start v here)
+            ∙ sym (append-snoc (decimal (rest / 10)) v (drop (suc start) bytes))
+            ∙ ap (λ (xs : List ℕ). xs ++ drop (suc start) bytes) (sym (decimal-tens rest b (omega (arith, d .small))))
+            ∙ d .is;
       }
 
-  pub digits-last : rest < 10 → take (10 - start) (drop start (set digits start (digit rest))) ≡ decimal n
+  pub digits-last : rest < 10 → set bytes start (digit rest) ≡ take start was ++ decimal n
   digits-last b =
-      let xs : List ℕ = set digits start (digit rest) in
-      take-all (10 - start) (drop start xs) (omega (arith, length-drop start xs, length-set digits start (digit rest), d .whole))
-      ∙ stored digits start (digit rest) (omega (arith, d .within, d .whole))
-      ∙ ap (λ (ys : List ℕ). ys ++ drop (suc start) digits) (sym (spell-last start rest b))
-      ∙ d .is
+      set-split bytes start (digit rest) (omega (arith, d .within, d .same))
+      ∙ ap (λ (xs : List ℕ). xs ++ digit rest ∷ drop (suc start) bytes) (d .kept)
+      ∙ ap (λ (xs : List ℕ). take start was ++ (xs ++ drop (suc start) bytes)) (sym (decimal-one rest b))
+      ∙ ap (λ (xs : List ℕ). take start was ++ xs) (d .is)
+
+  pub digits-first : rest < 10 → start + length (decimal n) ≡ length was
+  digits-first b =
+      omega (arith, ap length (d .is), ap length (decimal-one rest b), length-append (decimal rest) (drop (suc start) bytes), length-drop (suc start) bytes, d .same, d .within)

@@ -1,3 +1,4 @@
--- Laws of decimal numbers, and of bytes put into a buffer.
+-- Laws of decimal numbers, of bytes put into a buffer, and of text written into it.
 pub mod Decimals
 pub mod Puts
+pub mod Writes

@@ -1,11 +1,15 @@
--- Bytes put into a buffer.
+-- Bytes put into a buffer; and text written into it, as a fact of the buffer before and after.
 --
 --   fits buffer at bytes  == the bytes have room in the buffer from offset `at` on
 --   put buffer at bytes   == the buffer with the bytes from offset `at` on where they fit, and as it was where they do not
 --   after at bytes buffer == the offset after the bytes where they fit, and `at` where they do not
+--   Writes before at text after end == where the text has room from offset `at` on, `after` is `before` with the text there,
+--                            and `end` is the offset behind it; in any case the length is kept, and the offset does not leave
+--                            the buffer
+use mathlib.Core.Path.{_≡_}
 use mathlib.Core.Bool.{Bool, cond}
 use mathlib.Core.List.{List, _++_}
-use Prim.Native.Nat.{ℕ, _+_}
+use Prim.Native.Nat.{ℕ, _+_, _≤_}
 use lib.Dec.{leb}
 use lib.ListN.{length, take, drop}
 
@@ -17,3 +21,9 @@ put buffer at bytes = cond (fits buffer at bytes) (take at buffer ++ bytes ++ dr
 
 unfoldable pub after : ℕ → List ℕ → List ℕ → ℕ
 after at bytes buffer = cond (fits buffer at bytes) (at + length bytes) at
+
+pub record Writes (before : List ℕ) (at : ℕ) (text after : List ℕ) (end : ℕ) : Type 0 where
+  pub kept : length after ≡ length before
+  pub within : at ≤ length before → end ≤ length before
+  pub is : at + length text ≤ length before → after ≡ put before at text
+  pub behind : at + length text ≤ length before → end ≡ at + length text

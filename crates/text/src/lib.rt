@@ -1,15 +1,17 @@
 // Text in a buffer: bytes, and numbers in decimal.
 ghost use mathlib.Core.Path.{_≡_};
+ghost use mathlib.Core.List.{_++_};
+ghost use Prim.Native.Nat.{_+_, _≤_};
+ghost use lib.ListN.{length, take};
+ghost use Rattle.algebra.specs.Lists.{tab};
 ghost use Rattle.text.specs.Decimal.{decimal};
 ghost use Rattle.text.specs.Contracts.{put, after};
 
 // The byte of the digit 0.
 const ZERO: u8 = 48;
 
-// How many digits a u32 has at most, and the last one's index.
+// How many digits a u32 has at most.
 const DIGITS: usize = 10;
-
-const LAST_DIGIT: usize = DIGITS - 1;
 
 // Writes the bytes from offset `at` on and returns the offset after them. Where they do not fit, it writes nothing and
 // returns `at`.
@@ -31,6 +33,34 @@ pub fn put_bytes(out: &mut [u8], at: usize, bytes: &[u8]) -> usize
     at + bytes.len()
 }
 
+// Fills a buffer with one byte.
+pub fn fill(out: &mut [u8], byte: u8)
+    ensures { λ _. ⌜ now (out .exit) ≡ tab (λ i. byte) (length (now (out .entry))) ⌝ }
+{
+    let mut i = 0;
+    while i < out.len() {
+        out[i] = byte;
+        i += 1;
+    }
+}
+
+// Writes the decimal digits of n to the end of a buffer that has room for them, and returns the offset of the first.
+pub fn put_digits(out: &mut [u8], n: u32) -> usize
+    requires { ⌜ length (decimal n) ≤ length (now out) ⌝ }
+    ensures start { λ r. ⌜ r + length (decimal n) ≡ length (now (out .entry)) ⌝ }
+    ensures digits { λ r. ⌜ now (out .exit) ≡ take r (now (out .entry)) ++ decimal n ⌝ }
+{
+    let mut start = out.len() - 1;
+    let mut rest = n;
+    while 10 <= rest {
+        out[start] = ZERO + (rest % 10) as u8;
+        rest = rest / 10;
+        start -= 1;
+    }
+    out[start] = ZERO + rest as u8;
+    start
+}
+
 // Writes the decimal digits of n from offset `at` on and returns the offset after them. Where they do not fit, it writes
 // nothing and returns `at`.
 pub fn put_decimal(out: &mut [u8], at: usize, n: u32) -> usize
@@ -38,13 +68,6 @@ pub fn put_decimal(out: &mut [u8], at: usize, n: u32) -> usize
     ensures text { λ _. ⌜ now (out .exit) ≡ put (now (out .entry)) at (decimal n) ⌝ }
 {
     let mut digits = [ZERO; DIGITS];
-    let mut start = LAST_DIGIT;
-    let mut rest = n;
-    while 10 <= rest {
-        digits[start] = ZERO + (rest % 10) as u8;
-        rest = rest / 10;
-        start -= 1;
-    }
-    digits[start] = ZERO + rest as u8;
+    let start = put_digits(&mut digits, n);
     put_bytes(out, at, &digits[start..])
 }

@@ -1,8 +1,9 @@
 -- `lister::list_plan` meets its contract.
 use native.Mathlib.Omega.{arith}
 use borrow.Author.Needs.{needs}
+use Rattle.text.proofs.Writes.{then, same}
 use Rattle.lister.specs.Listing.{aLine, bLine, cLine, planText}
-use Rattle.lister.proofs.Writes.{then, same, lists}
+use Rattle.lister.proofs.Lines.{lists}
 use Rattle.lister.proofs.Strides.{side-is, places-is}
 use Rattle.lister.proofs.list_plan.Statement.{statement}
 use Rattle.lister.proofs.list_plan.Tie as tie

@@ -5,9 +5,10 @@ use native.Mathlib.Numerals.{add-one}
 use native.Mathlib.Omega.{arith}
 use Rattle.layout.specs.Contracts.{exponentBy}
 use Rattle.algebra.specs.Lists.{grid}
+use Rattle.text.specs.Contracts.{Writes}
+use Rattle.text.proofs.Writes.{writes-nothing, then}
 use Rattle.lister.specs.Listing.{values}
-use Rattle.lister.specs.Contracts.{Writes}
-use Rattle.lister.proofs.Writes.{writes-nothing, then, grid-more}
+use Rattle.lister.proofs.Lines.{grid-more}
 use Rattle.lister.proofs.put_grid.Statement.{statement}
 use Rattle.lister.proofs.put_grid.Tie as tie
 

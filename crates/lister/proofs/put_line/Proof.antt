@@ -1,7 +1,8 @@
 -- `lister::put_line` meets its contract.
 use mathlib.Core.Path.{sym}
-use Rattle.lister.specs.Listing.{ascii}
-use Rattle.lister.proofs.Writes.{writes, then, same, line-one}
+use Rattle.text.specs.Ascii.{ascii}
+use Rattle.text.proofs.Writes.{writes, then, same}
+use Rattle.lister.proofs.Lines.{line-one}
 use borrow.Author.Needs.{needs}
 use Rattle.lister.proofs.put_line.Statement.{statement}
 use Rattle.lister.proofs.put_line.Tie as tie

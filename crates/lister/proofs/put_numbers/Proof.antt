@@ -1,6 +1,6 @@
 -- `lister::put_numbers` meets its contract.
+use Rattle.text.proofs.Writes.{then}
 use Rattle.lister.specs.Listing.{numberLines}
-use Rattle.lister.proofs.Writes.{then}
 use borrow.Author.Needs.{needs}
 use Rattle.lister.proofs.put_numbers.Statement.{statement}
 use Rattle.lister.proofs.put_numbers.Tie as tie

@@ -1,7 +1,8 @@
 -- `lister::put_places` meets its contract.
-use Rattle.lister.specs.Listing.{ascii, line}
+use Rattle.text.specs.Ascii.{ascii}
+use Rattle.text.proofs.Writes.{writes, then}
+use Rattle.lister.specs.Listing.{line}
 use Rattle.lister.specs.Contracts.{placesText}
-use Rattle.lister.proofs.Writes.{writes, then}
 use borrow.Author.Needs.{needs}
 use Rattle.lister.proofs.put_places.Statement.{statement}
 use Rattle.lister.proofs.put_places.Tie as tie

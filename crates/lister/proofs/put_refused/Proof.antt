@@ -2,7 +2,7 @@
 use native.Mathlib.Omega.{arith}
 use borrow.Author.Needs.{needs}
 use Rattle.lister.specs.Listing.{refusedText}
-use Rattle.lister.proofs.Writes.{lists}
+use Rattle.lister.proofs.Lines.{lists}
 use Rattle.lister.proofs.put_refused.Statement.{statement}
 use Rattle.lister.proofs.put_refused.Tie as tie
 

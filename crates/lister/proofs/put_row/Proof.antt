@@ -5,9 +5,10 @@ use native.Mathlib.Numerals.{add-one}
 use native.Mathlib.Omega.{arith}
 use Rattle.algebra.specs.Lists.{tab}
 use Rattle.layout.specs.Contracts.{exponentBy}
+use Rattle.text.specs.Contracts.{Writes}
+use Rattle.text.proofs.Writes.{writes-nothing, then}
 use Rattle.lister.specs.Listing.{values}
-use Rattle.lister.specs.Contracts.{Writes}
-use Rattle.lister.proofs.Writes.{writes-nothing, then, row-more}
+use Rattle.lister.proofs.Lines.{row-more}
 use Rattle.lister.proofs.put_row.Statement.{statement}
 use Rattle.lister.proofs.put_row.Tie as tie
 

@@ -1,8 +1,9 @@
 -- `lister::put_side` meets its contract.
 use mathlib.Core.List.{[], _∷_}
-use Rattle.lister.specs.Listing.{ascii, sideLine}
+use Rattle.text.specs.Ascii.{ascii}
+use Rattle.text.proofs.Writes.{writes, then}
+use Rattle.lister.specs.Listing.{sideLine}
 use Rattle.lister.specs.Contracts.{sideText}
-use Rattle.lister.proofs.Writes.{writes, then}
 use borrow.Author.Needs.{needs}
 use Rattle.lister.proofs.put_side.Statement.{statement}
 use Rattle.lister.proofs.put_side.Tie as tie

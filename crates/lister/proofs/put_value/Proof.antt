@@ -1,7 +1,8 @@
 -- `lister::put_value` meets its contract.
+use Rattle.text.specs.Ascii.{ascii}
 use Rattle.text.specs.Decimal.{decimal}
-use Rattle.lister.specs.Listing.{ascii, value}
-use Rattle.lister.proofs.Writes.{writes, then}
+use Rattle.text.proofs.Writes.{writes, then}
+use Rattle.lister.specs.Listing.{value}
 use borrow.Author.Needs.{needs}
 use Rattle.lister.proofs.put_value.Statement.{statement}
 use Rattle.lister.proofs.put_value.Tie as tie
