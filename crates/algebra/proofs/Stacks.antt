@@ -2,6 +2,7 @@
 --
 --   stack-cong                equal lists
 --   length-stack, getD-stack  a stack of lists of one length has its length and their elements
+--   length-parts              the length of a stack of lists of any lengths
 --   tab-more, grid-more       a tabulated list, and a grid, in two parts
 --   stack-tab                 a stack of rows is a grid
 --   grid-tab                  a grid of elements numbered row by row is a tabulated list
@@ -15,6 +16,7 @@ use native.Mathlib.Omega.{arith}
 use lib.ListN.{length, getD, length-append, List·getD-append}
 use lib.Seq.{getD-append-add}
 use Rattle.algebra.specs.Lists.{tab, stack, grid}
+use Rattle.algebra.specs.Sums.{sum}
 
 pub stack-cong : (f g : ℕ → List ℕ) (n : ℕ) → ((i : ℕ) → i < n → f i ≡ g i) → stack f n ≡ stack g n
 unfolding stack
@@ -42,6 +44,11 @@ module _ (f : ℕ → List ℕ) where
       List·getD-append (stack f n) (f n) d (i * size + e) (omega (arith, long, mul-le-mul-right size l))
       ∙ getD-stack n size (λ i l. h i (omega arith)) i e d l b)
       (eq-or-lt-of-le (le-of-suc-le-suc a))
+
+  pub length-parts : (n : ℕ) → length (stack f n) ≡ sum n (λ i. length (f i))
+  unfolding stack sum
+  length-parts zero = refl
+  length-parts (suc n) = length-append (stack f n) (f n) ∙ ap (λ (k : ℕ). k + length (f n)) (length-parts n)
 
 pub tab-more : (f : ℕ → ℕ) (a b : ℕ) → tab f (a + b) ≡ tab f a ++ tab (λ i. f (a + i)) b
 unfolding tab

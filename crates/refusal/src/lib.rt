@@ -60,6 +60,8 @@ pub const TEXT: u32 = 26;
 
 pub const WORDS: u32 = 27;
 
+pub const PAGE: u32 = 28;
+
 // The largest numbers that several calls test (01, "The job"): a size, the elements of a block, and the hosts.
 pub const MOST_SIZE: u32 = 16384;
 

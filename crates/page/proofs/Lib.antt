@@ -1,0 +1,5 @@
+-- Laws of the page.
+pub mod Examples
+pub mod Lengths
+pub mod Places
+pub mod Texts
