@@ -3,3 +3,4 @@ pub mod Examples
 pub mod Lengths
 pub mod Places
 pub mod Texts
+pub mod Lines

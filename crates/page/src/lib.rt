@@ -2,12 +2,13 @@
 // A function put_.. writes from an offset of the buffer on and returns the offset behind.
 ghost use mathlib.Core.Path.{_≡_};
 ghost use mathlib.Core.List.{[]};
-ghost use Prim.Native.Nat.{_*_, _<_, _≤_};
+ghost use Prim.Native.Nat.{_+_, _*_, _<_, _≤_};
 ghost use lib.ListN.{length};
+ghost use Rattle.algebra.specs.Lists.{tab};
 ghost use Rattle.refusal.specs.Chain.{first};
 ghost use Rattle.text.specs.Decimal.{decimal};
 ghost use Rattle.text.specs.Contracts.{Writes};
-ghost use Rattle.page.specs.Page.{cell, panels, heading, panel, gap, page, pageLength, pageTests, pageAfter};
+ghost use Rattle.page.specs.Page.{cell, panels, across, heading, panel, gap, page, pageLength, pageTests, pageAfter};
 ghost use Rattle.page.specs.Contracts.{lineOf};
 use field::Named;
 use refusal::MOST_SIZE;
@@ -23,6 +24,15 @@ const CELL: usize = 11;
 // The most elements of a line.
 const MOST_ACROSS: usize = 6;
 
+// Fills a cell with a number that has room in it.
+fn fill_cell(out: &mut [u8], n: u32)
+    requires { ⌜ length (decimal n) ≤ length (now out) ⌝ }
+    ensures { λ _. ⌜ now (out .exit) ≡ cell (length (now (out .entry))) n ⌝ }
+{
+    text::fill(out, SPACE);
+    text::put_digits(out, n);
+}
+
 // Writes a number, right-aligned in so many columns.
 fn put_cell(out: &mut [u8], at: usize, width: usize, n: u32) -> usize
     requires { ⌜ length (decimal n) ≤ width ⌝ }
@@ -35,8 +45,7 @@ fn put_cell(out: &mut [u8], at: usize, width: usize, n: u32) -> usize
         return at;
     }
     let end = at + width;
-    text::fill(&mut out[at..end], SPACE);
-    text::put_digits(&mut out[at..end], n);
+    fill_cell(&mut out[at..end], n);
     end
 }
 
@@ -53,14 +62,30 @@ fn put_numbers(out: &mut [u8], at: usize, numbers: &[u32]) -> usize
     text::put_bytes(out, next, b"\n")
 }
 
+// How many columns stand in a panel.
+fn panel_width(r: usize, p: usize) -> usize
+    requires { ⌜ r ≤ 16384 × p < panels r ⌝ }
+    ensures { λ n. ⌜ n ≡ across r p ⌝ }
+{
+    least(MOST_ACROSS, r - p * MOST_ACROSS)
+}
+
+// The numbers of six columns, from a panel's first on.
+fn six_columns(p: usize) -> [u32; MOST_ACROSS]
+    requires { ⌜ p ≤ 16384 ⌝ }
+    ensures { λ r. ⌜ r ≡ tab (λ c. p * 6 + c + 1) 6 ⌝ }
+{
+    let first = (p * MOST_ACROSS) as u32 + 1;
+    [first, first + 1, first + 2, first + 3, first + 4, first + 5]
+}
+
 // Writes the heading of a panel.
 fn put_heading(out: &mut [u8], at: usize, r: usize, p: usize) -> usize
     requires { ⌜ r ≤ 16384 × p < panels r ⌝ }
     ensures { λ end. ⌜ Writes (now (out .entry)) at (heading r p) (now (out .exit)) end ⌝ }
 {
-    let first = (p * MOST_ACROSS) as u32;
-    let columns = [first + 1, first + 2, first + 3, first + 4, first + 5, first + 6];
-    let count = least(MOST_ACROSS, r - p * MOST_ACROSS);
+    let columns = six_columns(p);
+    let count = panel_width(r, p);
     let next = text::put_bytes(out, at, b"     ");
     put_numbers(out, next, &columns[..count])
 }
@@ -80,7 +105,7 @@ fn put_panel(out: &mut [u8], at: usize, t: usize, r: usize, table: &[u32], p: us
     ensures { λ end. ⌜ Writes (now (out .entry)) at (panel t r (now (table .entry)) p) (now (out .exit)) end ⌝ }
 {
     let left = p * MOST_ACROSS;
-    let count = least(MOST_ACROSS, r - left);
+    let count = panel_width(r, p);
     let mut next = put_heading(out, at, r, p);
     let mut i = 0;
     while i < t {

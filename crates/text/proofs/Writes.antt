@@ -2,14 +2,16 @@
 --
 --   writes           what putting bytes gives
 --   writes-nothing   no text
+--   writes-over      a text that has no room
+--   writes-part      a text that takes the place of as many bytes
 --   then             a text and another after it
 --   same             a text by another name
 use mathlib.Core.Path.{_≡_, refl, sym, ap, _∙_, subst}
-use mathlib.Core.List.{List, [], _++_}
-use Prim.Native.Nat.{ℕ, _+_, _≤_}
+use mathlib.Core.List.{List, [], _++_, append-assoc}
+use Prim.Native.Nat.{ℕ, _+_, _<_, _≤_}
 use native.Mathlib.Omega.{arith}
-use lib.ListN.{length, length-append}
-use lib.Seq.{paste-zero}
+use lib.ListN.{length, take, drop, length-append}
+use lib.Seq.{take-length, drop-drop, paste-zero}
 use Rattle.text.specs.Contracts.{put, after, Writes}
 use Rattle.text.proofs.Puts.{put-fits, after-fits, after-within, length-put, put-put}
 
@@ -29,6 +31,21 @@ writes-nothing out at = record {
   is = λ fits. paste-zero out at [] ∙ sym (put-fits out at [] fits);
   behind = λ fits. omega arith;
 }
+
+pub writes-over : (out : List ℕ) (at : ℕ) (text : List ℕ) → length out < at + length text → Writes out at text out at
+writes-over out at text over = record { kept = refl; within = λ h. h; is = λ fits. absurd (omega arith); behind = λ fits. absurd (omega arith) }
+
+pub writes-part : (out : List ℕ) (at : ℕ) (text : List ℕ) {part : List ℕ} {k end : ℕ} → at + length text ≤ length out → part ≡ text
+    → k ≡ length text → end ≡ at + length text → Writes out at text (take at out ++ (part ++ drop k (drop at out))) end
+writes-part out at text {k = k} room is long behind =
+    writes out at text
+    (behind ∙ sym (after-fits out at text room),
+    ap (λ (xs : List ℕ). take at out ++ (xs ++ drop k (drop at out))) is
+    ∙ ap (λ (n : ℕ). take at out ++ (text ++ drop n (drop at out))) long
+    ∙ ap (λ (xs : List ℕ). take at out ++ (text ++ xs)) (drop-drop (length text) at out)
+    ∙ sym (append-assoc (take at out) text (drop (at + length text) out))
+    ∙ ap (λ (xs : List ℕ). take at out ++ xs ++ drop (at + length text) out) (sym (take-length text))
+    ∙ sym (put-fits out at text room))
 
 pub then : {a b c xs ys : List ℕ} {at e f : ℕ} → Writes a at xs b e → Writes b e ys c f → Writes a at (xs ++ ys) c f
 then {a} {b} {c} {xs} {ys} {at} {e} {f} p q = record { kept = q .kept ∙ p .kept; within = within; is = is; behind = behind }
