@@ -4,3 +4,4 @@ pub mod Lengths
 pub mod Places
 pub mod Texts
 pub mod Lines
+pub mod Outcomes

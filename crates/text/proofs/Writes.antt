@@ -6,11 +6,12 @@
 --   writes-part      a text that takes the place of as many bytes
 --   then             a text and another after it
 --   same             a text by another name
+--   writes-all       a text as long as the buffer
 use mathlib.Core.Path.{_≡_, refl, sym, ap, _∙_, subst}
-use mathlib.Core.List.{List, [], _++_, append-assoc}
+use mathlib.Core.List.{List, [], _++_, append-assoc, append-nil}
 use Prim.Native.Nat.{ℕ, _+_, _<_, _≤_}
 use native.Mathlib.Omega.{arith}
-use lib.ListN.{length, take, drop, length-append}
+use lib.ListN.{length, take, drop, length-append, drop-of-length-le}
 use lib.Seq.{take-length, drop-drop, paste-zero}
 use Rattle.text.specs.Contracts.{put, after, Writes}
 use Rattle.text.proofs.Puts.{put-fits, after-fits, after-within, length-put, put-put}
@@ -72,3 +73,11 @@ then {a} {b} {c} {xs} {ys} {at} {e} {f} p q = record { kept = q .kept ∙ p .kep
 
 pub same : {a b text : List ℕ} {at e : ℕ} {other : List ℕ} → text ≡ other → Writes a at text b e → Writes a at other b e
 same {a} {b} {text} {at} {e} s w = subst (λ (l : List ℕ). Writes a at l b e) s w
+
+pub writes-all : {out text exit : List ℕ} {end : ℕ} → length text ≡ length out → Writes out 0 text exit end → exit ≡ text
+writes-all {out} {text} long w =
+    w .is (omega arith)
+    ∙ put-fits out 0 text (omega arith)
+    ∙ ap (λ (xs : List ℕ). xs ++ drop (0 + length text) out) (take-length text)
+    ∙ ap (λ (xs : List ℕ). text ++ xs) (drop-of-length-le out {i = 0 + length text} (omega arith))
+    ∙ append-nil text
