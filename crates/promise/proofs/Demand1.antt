@@ -34,6 +34,7 @@ use Rattle.arrival_heard.specs.Heard.{isHeard, withHost}
 use Rattle.arrival.specs.Arriving.{answerLength, withBlock, hostIndex, stateTests, answerTests, againTests, arrivalTests}
 use Rattle.arrival.specs.Arriving.{entered, storeEntered, arrived, storeAfter, numberOf, heardAfter, alreadyIn}
 use Rattle.decode.specs.Decoding.{tableTests, decodeTests, tableAfter}
+use Rattle.page.specs.Page.{pageTests, pageAfter}
 use Rattle.field.proofs.Moduli.{told-named}
 use Rattle.field_signed.specs.Signed.{signedTests, elementTests}
 use Rattle.field_signed.proofs.Outcomes.{signed-told, element-told}
@@ -126,7 +127,7 @@ after-plan : (job : Job) (points : List ℕ) (tests : List Test) → T (numbered
 after-plan job points tests = numbered-append (planTests job points) tests (plan-numbered job points)
 
 pub demand-1 : Demand1
-unfolding drawTests masksAfter shareTests matrixTests shareAfter productTests productAfter hostTests hostAfter fieldTests writeTests messageTests headerTests readTests written readInto stateTests answerTests againTests arrivalTests entered storeEntered arrived storeAfter put next decodeTests tableTests tableAfter numbered
+unfolding drawTests masksAfter shareTests matrixTests shareAfter productTests productAfter hostTests hostAfter fieldTests writeTests messageTests headerTests readTests written readInto stateTests answerTests againTests arrivalTests entered storeEntered arrived storeAfter put next decodeTests tableTests tableAfter pageTests pageAfter numbered
 demand-1 = record {
   plan = λ job points. tells (planTests job points) _ (plan-numbered job points) (plan-told job points);
   draw = λ n words out.
@@ -150,6 +151,7 @@ demand-1 = record {
         l .already,
       );
   decode = λ job points heard store table. called _ _ _ (after-plan job points _ tt) refl;
+  page = λ n t r table out. called _ _ _ tt refl;
 }
 
 pub other-calls : OtherCalls

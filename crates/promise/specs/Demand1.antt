@@ -3,7 +3,7 @@
 -- number that fits it in the sheet's order, and no element of any lent buffer changes."
 -- It is said of the definitions that the calls' contracts cite; a call returns its number, and 0 means carried out. "A garden heard
 -- a second time" gets 23 where its message differs from the first, and is "already in" where it does not (02, U1). A drawing of masks
--- (02, U3) is a call like the others.
+-- (02, U3) and a page (02, U6) are calls like the others.
 --
 --   test tests i              == the test at i
 --   Judged tests n            == n is 0 exactly where no test holds; otherwise it is the number of the first that does
@@ -36,6 +36,7 @@ use Rattle.message.specs.Format.{told as Format·told}
 use Rattle.arrival_heard.specs.Heard.{isHeard, withHost}
 use Rattle.arrival.specs.Arriving.{answerLength, withBlock, hostIndex, arrivalTests, arrived, storeAfter, numberOf, heardAfter, alreadyIn}
 use Rattle.decode.specs.Decoding.{tableOf, decodeTests, tableAfter}
+use Rattle.page.specs.Page.{page as Page·page, pageTests, pageAfter}
 
 -- there is none past the end
 abbrev pub test : List Test → ℕ → Test
@@ -89,3 +90,5 @@ pub record Demand1 : Type 0 where
   pub decode : (job : Job) (points : List ℕ) (heard : ℕ) (store table : List ℕ)
       → let tests = decodeTests job points heard store (length table) in
       Obeys tests (first tests) (tableAfter job points heard store table) (tableOf job points heard store) table
+  pub page : (n t r : ℕ) (table out : List ℕ) → let tests = pageTests n t r table (length out) in
+      Obeys tests (first tests) (pageAfter n t r table out) (Page·page t r table) out
