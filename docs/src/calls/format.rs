@@ -3,7 +3,7 @@
 //! A case is 18 words, three lists of words, and a list of bytes:
 //!
 //!   0       the call: 1 share of A, 2 share of B, 3 product, 4 write a message, 5 read a message,
-//!           6 signed reading, 7 its way back, 8 draw masks
+//!           6 signed reading, 7 its way back, 8 draw masks, 9 write a page
 //!   1..=12  the call's numbers, unused ones 0
 //!             share           modulus number, t, s, r, m, p, n, X_A, X_B, N, job number, host
 //!             product         modulus number, rows, inner, columns
@@ -11,12 +11,13 @@
 //!             signed reading  modulus number, element
 //!             way back        modulus number, value: the high word and the low one
 //!             draw            modulus number
+//!             page            modulus number, t, r
 //!   13      length of list 1: a share's points
 //!   14      length of list 2: a share's matrix, a product's a, the elements to write, the words to draw
-//!           masks from
+//!           masks from, a page's table
 //!   15      length of list 3: a share's masks, a product's b
 //!   16      length of the list of bytes: the message to read
-//!   17      length of the output: in bytes for a message to write, else in elements
+//!   17      length of the output: in bytes for a message or a page to write, else in elements
 //!
 //! A signed value has 64 bits in two's complement, and goes as two words, the high one first.
 //!
@@ -24,12 +25,13 @@
 //! kind, modulus number, host, rows, columns and job number, of an element that was read its signed
 //! value in two words, of a value taken back its element, and of masks that were drawn the number of
 //! words used; then the output after the call. Before it every byte of the output is A5 hex. Of the
-//! output the part up to the last element that is not A5A5A5A5 hex is told (for a message to write: the
-//! last byte that is not A5): a word with its length, then the elements as words, or the bytes. Signed
-//! reading and its way back have an output of length 0.
+//! output the part up to the last element that is not A5A5A5A5 hex is told (for a message or a page to
+//! write: the last byte that is not A5): a word with its length, then the elements as words, or the bytes.
+//! Signed reading and its way back have an output of length 0.
 
 use crate::sheet::masks::{draw, Drawing};
 use crate::sheet::message::{read, write, Fields, Reading, Writing};
+use crate::sheet::page::{page, Paging};
 use crate::sheet::product::{product, Multiplying};
 use crate::sheet::share::{share, Sharing, Side};
 use crate::sheet::signed::{signed_reading, way_back, SignedReading, WayBack};
@@ -47,6 +49,7 @@ pub enum Call {
     Signed(SignedReading),
     Back(WayBack),
     Draw(Drawing),
+    Page(Paging),
 }
 
 /// A case before it is made into bytes.
@@ -71,6 +74,7 @@ pub fn case(call: &Call) -> Vec<u8> {
             numbers_case(7, vec![call.modulus, high, low])
         }
         Call::Draw(call) => draw_case(call),
+        Call::Page(call) => page_case(call),
     })
 }
 
@@ -129,6 +133,17 @@ fn draw_case(call: &Drawing) -> Case<'_> {
     }
 }
 
+/// The case of a page to write.
+fn page_case(call: &Paging) -> Case<'_> {
+    Case {
+        call: 9,
+        numbers: vec![call.modulus, call.t, call.r],
+        lists: [&[], &call.table, &[]],
+        message: &[],
+        room: call.room,
+    }
+}
+
 /// The case of a call that has numbers alone.
 fn numbers_case<'a>(call: u32, numbers: Vec<u32>) -> Case<'a> {
     Case {
@@ -160,8 +175,12 @@ fn field_words(fields: &Fields) -> [u32; 6] {
 /// The bytes of a case; panics if it is over the limits that the program on the other side has.
 fn bytes_of(case: &Case) -> Vec<u8> {
     let lengths = case.lists.map(<[u32]>::len);
-    let most_room = if case.call == 4 { 20_000 } else { 8192 };
-    assert!(lengths[0] <= 128 && lengths[1] <= 16384 && lengths[2] <= 16384);
+    let most_room = match case.call {
+        4 => 20_000,
+        9 => 400_000,
+        _ => 8192,
+    };
+    assert!(lengths[0] <= 128 && lengths.iter().sum::<usize>() <= 32_896);
     assert!(case.message.len() <= 20_000 && case.room <= most_room);
     let mut head = vec![case.call];
     head.extend(&case.numbers);
@@ -189,6 +208,7 @@ pub fn number(call: &Call) -> u32 {
         Call::Signed(call) => signed_reading(call).err(),
         Call::Back(call) => way_back(call).err(),
         Call::Draw(call) => draw(call).err(),
+        Call::Page(call) => page(call).err(),
     };
     refused.unwrap_or(0)
 }
@@ -204,6 +224,7 @@ pub fn outcome(call: &Call) -> Vec<u8> {
         Call::Signed(call) => value_told(signed_reading(call).map(signed_words)),
         Call::Back(call) => value_told(way_back(call).map(|element| [element])),
         Call::Draw(call) => drawing_told(call),
+        Call::Page(call) => bytes_told(&page(call).unwrap_or_default(), call.room),
     });
     bytes
 }

@@ -1,5 +1,5 @@
-//! The subcommand `calls`: gathers the cases of shares, products, messages, signed reading and masks,
-//! checks them, writes them with their outcomes.
+//! The subcommand `calls`: gathers the cases of shares, products, messages, signed reading, masks and
+//! pages, checks them, writes them with their outcomes.
 //!
 //!   shares        cases of shares that are fit
 //!   share_faults  cases of shares that are refused
@@ -9,6 +9,7 @@
 //!   damage        cases of damaged messages to read
 //!   signed        cases of signed reading and of its way back
 //!   masks         cases of masks to draw
+//!   pages         cases of pages to write
 //!   format        the file format of cases and outcomes
 
 pub mod damage;
@@ -16,6 +17,7 @@ pub mod depths;
 pub mod format;
 pub mod masks;
 pub mod messages;
+mod pages;
 mod products;
 mod share_faults;
 pub mod shares;
@@ -29,6 +31,8 @@ use crate::cases::save;
 use crate::sheet::masks::{draw, Drawing, Drawn};
 use crate::sheet::masks_check;
 use crate::sheet::message::{read, write, Reading, Writing};
+use crate::sheet::page::{page, Paging};
+use crate::sheet::page_check;
 use crate::sheet::plan_check;
 use crate::sheet::product::product;
 use crate::sheet::random::Random;
@@ -57,12 +61,14 @@ const FLOORS: &Floors = &[
     ("signed reading", &[(0, 886), (1, 210), (14, 255)]),
     ("way back", &[(0, 889), (1, 390), (25, 496)]),
     ("masks", &[(0, 540), (1, 105), (27, 458)]),
+    ("page", &[(0, 474), (1, 285), (2, 301), (13, 255), (14, 296), (28, 363)]),
 ];
 
 /// Checks the program, then writes the cases to one file and their outcomes to the other.
 pub fn write_files(stdin_file: &str, stdout_file: &str) {
     plan_check::run();
     masks_check::run();
+    page_check::run();
     sums_check::run();
     hand_values();
     signed_values();
@@ -105,7 +111,8 @@ fn signed_values() {
     assert_eq!(back(5, 0), Err(1));
 }
 
-/// All calls, each once. Shares and masks have generators of their own: no other call changes with them.
+/// All calls, each once. Shares, masks and pages have generators of their own: no other call changes with
+/// them.
 fn gathered() -> Vec<Call> {
     let random = &mut Random::new(2027);
     let mut calls = expected(shares::expected(random), Call::Share);
@@ -123,6 +130,8 @@ fn gathered() -> Vec<Call> {
     calls.extend(expected(signed::ways_back(random), Call::Back));
     let random = &mut Random::new(2030);
     calls.extend(expected(masks::expected(random), Call::Draw));
+    let random = &mut Random::new(2032);
+    calls.extend(expected(pages::expected(random), Call::Page));
     let mut seen = HashSet::new();
     calls.retain(|call| seen.insert(case(call)));
     calls
@@ -140,8 +149,8 @@ fn expected<T>(list: Expected<T>, as_call: fn(T) -> Call) -> Vec<Call> {
 }
 
 /// Panics unless a message that is written reads back to its fields and elements, one that is read
-/// is written again byte for byte, signed reading and its way back undo each other, and the words used
-/// give the masks that all words give.
+/// is written again byte for byte, signed reading and its way back undo each other, the words used give
+/// the masks that all words give, and a page that is written reads back to its table.
 fn reads_back(call: &Call) {
     match call {
         Call::Write(call) => {
@@ -165,6 +174,7 @@ fn reads_back(call: &Call) {
         Call::Signed(call) => signed_back(call),
         Call::Back(call) => back_signed(call),
         Call::Draw(call) => drawn_again(call),
+        Call::Page(call) => page_back(call),
         Call::Share(_) | Call::Product(_) => {}
     }
 }
@@ -199,6 +209,14 @@ fn drawn_again(call: &Drawing) {
     }
 }
 
+/// Panics unless the page fills the output and reads back to the table.
+fn page_back(call: &Paging) {
+    if let Ok(page) = page(call) {
+        assert_eq!(page.len(), call.room);
+        page_check::reads_back(&page, &call.table, call.r);
+    }
+}
+
 /// How many cases there are of each call and refusal number.
 fn counted(calls: &[Call]) -> Counts {
     let mut counts = Counts::new();
@@ -219,5 +237,6 @@ fn name(call: &Call) -> &'static str {
         Call::Signed(_) => "signed reading",
         Call::Back(_) => "way back",
         Call::Draw(_) => "masks",
+        Call::Page(_) => "page",
     }
 }

@@ -10,6 +10,8 @@
 //!   signed       signed reading and its way back
 //!   masks        masks drawn from random words
 //!   masks_check  the drawing against values by hand and against a count of all lists of few words
+//!   page         the kinship page
+//!   page_check   pages against pages by hand and against the formula, and read back
 //!   job_call     calls on a job that is under way, and the tests that they make first
 //!   arrival      an answer's arrival
 //!   interpolate  interpolation, by a system of linear equations
@@ -25,6 +27,8 @@ pub mod listing;
 pub mod masks;
 pub mod masks_check;
 pub mod message;
+pub mod page;
+pub mod page_check;
 pub mod plan;
 pub mod plan_check;
 pub mod product;

@@ -41,7 +41,7 @@ const BY_HAND: &str = "JOB 1 1 1 1 1 1 1 1 1 3 7\nPOINTS 1 2 3\nA 5\nB 4\n\
 const BY_HAND_DUE: &str = "MODULUS 13\nLAYOUT 1\nHOSTS 3\nNEEDED 3\nA 0 | 1\nB 0 | 1\nC 0\n\
     host 2 taken, heard 1\nhost 2 already in, heard 1\nhost 0 refused 12\nhost 4 refused 12\n\
     host 3 taken, heard 2\nhost 1 taken, heard 3\nhost 1 late, heard 3\nHEARD 1 2 3\n\
-    TABLE\n7\nSIGNED READING\n-6\n";
+    TABLE\n7\nSIGNED READING\n-6\nPAGE\n               1\n    1          7\n";
 
 /// The sheet's smallest job: as told by hand, in all orders, and with too few answers.
 fn checked_by_hand() -> Vec<Case> {
@@ -98,7 +98,8 @@ fn signed_ends() -> Vec<Case> {
             };
             let gap = if upright { "\n" } else { "\t" };
             let signed = format!("0{gap}{half}{gap}-{half}{gap}-1\n");
-            assert!(job.due().ends_with(&format!("SIGNED READING\n{signed}")));
+            let signed = format!("\nSIGNED READING\n{signed}PAGE\n");
+            assert!(job.due().contains(&signed));
             cases.push(job.case());
         }
     }

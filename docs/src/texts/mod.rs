@@ -6,6 +6,7 @@
 //!   job_text  a job as a text, and what must be printed by a shorter way
 //!   jobs      texts of jobs that are carried out
 //!   depths    texts of jobs with read depths
+//!   pages     texts of jobs with tables of many sizes
 //!   forms     texts of all forms and lengths
 //!   numbers   texts with a fault in a number
 //!   words     texts with a fault in a word
@@ -19,6 +20,7 @@ mod forms;
 mod job_text;
 mod jobs;
 mod numbers;
+mod pages;
 mod printed;
 mod refusals;
 mod sections;
@@ -26,6 +28,7 @@ mod short;
 mod words;
 
 use crate::cases::folder::{self, capitals, Case};
+use crate::sheet::page_check;
 use crate::sheet::plan_check;
 use crate::sheet::random::Random;
 use crate::sheet::sums_check;
@@ -46,11 +49,11 @@ const KINDS: [(&str, u32); 48] = [
     ("section JOB long", 34), ("section JOB short", 40), ("section MASKS_A long", 43),
     ("section MASKS_A short", 49), ("section MASKS_B long", 46), ("section MASKS_B short", 43),
     ("section POINTS long", 28), ("section POINTS short", 59), ("share refused 14", 37),
-    ("share refused 15", 34), ("table of 13, layout 1", 109), ("table of 13, layout 2", 25),
-    ("table of 2147483647, layout 1", 56), ("table of 2147483647, layout 2", 39),
-    ("table of 2147483647, layout 3", 30), ("table of 257, layout 1", 76),
+    ("share refused 15", 34), ("table of 13, layout 1", 117), ("table of 13, layout 2", 25),
+    ("table of 2147483647, layout 1", 64), ("table of 2147483647, layout 2", 39),
+    ("table of 2147483647, layout 3", 30), ("table of 257, layout 1", 84),
     ("table of 257, layout 2", 26), ("table of 257, layout 3", 25),
-    ("table of 65537, layout 1", 42), ("table of 65537, layout 2", 36),
+    ("table of 65537, layout 1", 50), ("table of 65537, layout 2", 36),
     ("table of 65537, layout 3", 32), ("table refused 24", 73), ("text too long", 10),
 ];
 
@@ -61,13 +64,16 @@ const MOST_TEXTS: usize = 3000;
 pub fn write_folder(folder: &str) {
     plan_check::run();
     sums_check::run();
+    page_check::run();
     let cases = gathered();
     assert!(cases.len() <= MOST_TEXTS);
+    cases.iter().for_each(page_back);
     folder::write(folder, &cases, kind, &KINDS);
     report(&cases);
 }
 
-/// All texts, each once, with all that must be printed.
+/// All texts, each once, with all that must be printed. Those for pages have a generator of their own: no
+/// other text changes with them.
 fn gathered() -> Vec<Case> {
     let random = &mut Random::new(2029);
     let groups = [
@@ -82,8 +88,22 @@ fn gathered() -> Vec<Case> {
         refusals::borders(random),
         refusals::large(),
         short::short(random),
+        pages::pages(&mut Random::new(2033)),
     ];
     folder::gathered(groups.concat(), short::changed(random), printed)
+}
+
+/// Panics unless a table that is printed has its page at the end, and the page reads back to the table.
+fn page_back((_, due): &Case) {
+    let Some((_, tables)) = due.split_once("\nTABLE\n") else {
+        return assert!(!due.contains("PAGE"));
+    };
+    let (rows, others) = tables.split_once("SIGNED READING\n").expect("signed");
+    let (_, page) = others.split_once("PAGE\n").expect("a page");
+    let elements: Result<Vec<u32>, _> = rows.split_whitespace().map(str::parse).collect();
+    let table = elements.expect("elements");
+    let columns = table.len() / rows.lines().count();
+    page_check::reads_back(page.as_bytes(), &table, columns as u32);
 }
 
 /// The kind of what is printed, by the lines that tell a refusal or the plan.

@@ -14,7 +14,7 @@
 //!
 //! The others get the plan as the lister has it. Then A is shared for all hosts, then B; a refusal
 //! is printed and ends it. Then comes a line for each answer, a line with the hosts heard, and the
-//! refusal of the decoding, or the table and its signed reading.
+//! refusal of the decoding, or the table, its signed reading and its page.
 //!
 //!   printed        all that is printed
 //!   TOO_LONG       the line for a text that is too long
@@ -23,7 +23,7 @@
 //!   needs          how many numbers A, B and the masks need
 //!   answer_line    what became of a host's answer
 //!   heard_line     the hosts heard
-//!   tables         a table and its signed reading
+//!   tables         a table, its signed reading and its page
 
 use super::sections::{sections, Section, WORDS};
 use crate::cases::tokens::without_mark;
@@ -31,6 +31,7 @@ use crate::sheet::arrival::{arrive, Arrived};
 use crate::sheet::decode::decode;
 use crate::sheet::job_call::{answer_length, Act, JobCall};
 use crate::sheet::listing::{self, refused};
+use crate::sheet::page::formatted;
 use crate::sheet::plan::{refusal, Job};
 use crate::sheet::share::{share, Shape, Side};
 use crate::sheet::whole_job::{sharing, Contents, WholeJob};
@@ -186,12 +187,14 @@ pub fn heard_line(hosts: &[u32]) -> String {
     format!("HEARD{words}\n")
 }
 
-/// A table of so many columns as elements, then by its signed reading.
+/// A table of so many columns as elements, then by its signed reading, then as a page.
 pub fn tables(table: &[u32], columns: u32, q: u32) -> String {
     let elements: Vec<i64> = table.iter().copied().map(i64::from).collect();
     let signed: Vec<i64> = elements.iter().map(|&v| signed(v, q.into())).collect();
-    let [elements, signed] = [elements, signed].map(|values| rows(&values, columns as usize));
-    format!("TABLE\n{elements}SIGNED READING\n{signed}")
+    let columns = columns as usize;
+    let [elements, signed] = [elements, signed].map(|values| rows(&values, columns));
+    let page = formatted(table, columns);
+    format!("TABLE\n{elements}SIGNED READING\n{signed}PAGE\n{page}")
 }
 
 /// The signed reading of an element (01, "Signed reading").
