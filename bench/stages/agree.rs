@@ -1,11 +1,12 @@
-//! The library and plain Rust give the same outcomes: random jobs, whole and with a fault put in, and masks
-//! drawn from random words.
+//! The library and plain Rust give the same outcomes: random jobs, whole and with a fault put in, masks
+//! drawn from random words, and pages of random tables.
 
 use crate::calls::{Calls, Plain};
 use crate::drawing::lowest_skipped;
 use crate::library::Library;
 use crate::random::Random;
 use crate::work::{header, prime, run, take, Room, Shape, Work};
+use plain::page::page_length;
 use plain::plan::Job;
 use plain::share::Matrix;
 
@@ -16,8 +17,11 @@ const FAULTS: u32 = 20;
 /// How many drawings are made.
 const DRAWINGS: u32 = 5000;
 
+/// How many pages are written.
+const PAGES: u32 = 5000;
+
 /// Runs random jobs by both, the layouts in turn and every fifth with the greatest elements, and calls with
-/// faults; then draws masks. Stops where two outcomes differ.
+/// faults; then draws masks and writes pages. Stops where two outcomes differ.
 pub fn check() {
     let mut random = Random::new(1);
     for i in 0..JOBS {
@@ -32,10 +36,26 @@ pub fn check() {
             same_calls(&mut random, &work, &room);
         }
     }
-    let mut numbers: Vec<u32> = (0..DRAWINGS).map(|_| same_drawing(&mut random)).collect();
+    let drawings = (0..DRAWINGS).map(|_| same_drawing(&mut random));
+    assert_eq!(
+        each_once(drawings),
+        [0, 1, 27],
+        "drawings have other outcomes"
+    );
+    let pages = (0..PAGES).map(|_| same_page(&mut random));
+    assert_eq!(
+        each_once(pages),
+        [0, 1, 2, 13, 14, 28],
+        "pages have other outcomes"
+    );
+}
+
+/// The numbers that there are, each once, the smallest first.
+fn each_once(numbers: impl Iterator<Item = u32>) -> Vec<u32> {
+    let mut numbers: Vec<u32> = numbers.collect();
     numbers.sort_unstable();
     numbers.dedup();
-    assert_eq!(numbers, [0, 1, 27], "drawings have other outcomes");
+    numbers
 }
 
 /// A random job in a layout. Layout 3 needs at least 13 answers, more than there are hosts with 13.
@@ -192,5 +212,33 @@ fn same_drawing(random: &mut Random) -> u32 {
         used
     });
     let outcome = Plain.draw(modulus, &words, &mut masks.clone());
+    outcome.err().unwrap_or(0)
+}
+
+/// Writes a page by both, some with up to two faults; the number of the refusal, or 0. A refused call leaves
+/// the bytes as they were.
+fn same_page(random: &mut Random) -> u32 {
+    let modulus = random.within(0, 5);
+    let q = prime(modulus.clamp(1, 4));
+    let [mut t, r] = [0; 2].map(|_| random.within(1, 20));
+    let mut table = random.elements((t * r) as usize, q);
+    let mut bytes = vec![random.byte(); page_length(t as usize, r as usize)];
+    for _ in 0..random.index(3) {
+        match random.index(4) {
+            0 => t = [0, 16384, 16385, random.word()][random.index(4)],
+            1 => table.resize(random.within(1, 400) as usize, 0),
+            2 => bytes.resize(random.index(2 * bytes.len() + 1), 0),
+            _ => spoil_list(random, q, &mut table),
+        }
+    }
+    same("page", &bytes, |calls, out| {
+        let outcome = calls.page(modulus, t, r, &table, out);
+        assert!(
+            outcome.is_ok() || *out == bytes,
+            "a refused page is written"
+        );
+        outcome
+    });
+    let outcome = Plain.page(modulus, t, r, &table, &mut bytes);
     outcome.err().unwrap_or(0)
 }

@@ -1,9 +1,10 @@
-//! The calls of a job, and the drawing of masks, by the library and in plain Rust.
+//! The calls of a job, the drawing of masks and the page, by the library and in plain Rust.
 
 use plain::arrival::arrive;
 use plain::decode::decode;
 use plain::masks::draw_masks;
 use plain::message::{read_message, write_message, Header};
+use plain::page::write_page;
 use plain::plan::{plan, Job};
 use plain::product::{product, product_of_bytes};
 use plain::share::{share, Matrix};
@@ -67,6 +68,8 @@ pub trait Calls {
     ) -> Outcome;
 
     fn draw(&self, modulus: u32, words: &[u32], out: &mut [u32]) -> Result<usize, u32>;
+
+    fn page(&self, modulus: u32, t: u32, r: u32, table: &[u32], out: &mut [u8]) -> Outcome;
 }
 
 /// The calls in plain Rust.
@@ -144,5 +147,9 @@ impl Calls for Plain {
 
     fn draw(&self, modulus: u32, words: &[u32], out: &mut [u32]) -> Result<usize, u32> {
         draw_masks(modulus, words, out)
+    }
+
+    fn page(&self, modulus: u32, t: u32, r: u32, table: &[u32], out: &mut [u8]) -> Outcome {
+        write_page(modulus, t, r, table, out)
     }
 }

@@ -57,6 +57,11 @@ extern "C" {
         modulus: u32, words: *const u32, words_length: usize, out: *mut u32, out_length: usize,
         used: *mut usize,
     ) -> u32;
+
+    fn stages_page(
+        modulus: u32, t: u32, r: u32, table: *const u32, table_length: usize,
+        out: *mut u8, out_length: usize,
+    ) -> u32;
 }
 
 /// The numbers of a job.
@@ -259,5 +264,19 @@ impl Calls for Library {
             "a refused drawing tells words used"
         );
         outcome(number).map(|()| used)
+    }
+
+    fn page(&self, modulus: u32, t: u32, r: u32, table: &[u32], out: &mut [u8]) -> Outcome {
+        outcome(unsafe {
+            stages_page(
+                modulus,
+                t,
+                r,
+                table.as_ptr(),
+                table.len(),
+                out.as_mut_ptr(),
+                out.len(),
+            )
+        })
     }
 }

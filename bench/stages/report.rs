@@ -3,6 +3,7 @@
 
 use crate::cases::{every_stage, every_stage_in_layout_3, growth, Case, Row, Table};
 use crate::drawing::{self, MASKS, SKIPPED};
+use crate::page::{self, SIDES};
 use crate::race::Times;
 use crate::random::Random;
 use crate::stage::{measure, Stage};
@@ -24,10 +25,10 @@ fn all_cases() -> Vec<(Stage, Case)> {
         .collect()
 }
 
-/// The modulus numbers of the masks that are drawn.
+/// The modulus numbers of the masks that are drawn, and of the tables that are written as pages.
 const MODULI: [u32; 4] = [1, 2, 3, 4];
 
-/// Times every case and every drawing and prints the times, a line each.
+/// Times every case, every drawing and every page and prints the times, a line each.
 pub fn print_times() {
     for (stage, case) in all_cases() {
         let mut random = Random::new(u64::from(case.modulus));
@@ -37,6 +38,16 @@ pub fn print_times() {
     for modulus in MODULI {
         print_line_of_times(drawing::measure(modulus));
     }
+    for (side, modulus) in pages() {
+        print_line_of_times(page::measure(modulus, side));
+    }
+}
+
+/// The sides of the tables that are written as pages, each with every modulus number.
+fn pages() -> impl Iterator<Item = (u32, u32)> {
+    SIDES
+        .into_iter()
+        .flat_map(|side| MODULI.map(|modulus| (side, modulus)))
 }
 
 /// Prints the line that another process reads.
@@ -90,6 +101,7 @@ pub fn print_tables() {
         print_growth(&table, &mut cases);
     }
     print_drawings(&mut cases);
+    print_pages(&mut cases);
 }
 
 /// Prints the head of a table with a line a stage.
@@ -117,6 +129,15 @@ fn print_drawings(cases: &mut impl Iterator<Item = Runs>) {
     for modulus in MODULI {
         let runs = cases.next().expect("a drawing has its times");
         print_line("masks drawn", modulus, &runs);
+    }
+}
+
+/// Prints the table of the pages.
+fn print_pages(cases: &mut impl Iterator<Item = Runs>) {
+    print_head("The kinship page of a table");
+    for (side, modulus) in pages() {
+        let runs = cases.next().expect("a page has its times");
+        print_line(&format!("page, {side} × {side}"), modulus, &runs);
     }
 }
 

@@ -9,6 +9,7 @@ ghost use Rattle.product.specs.Product.{productTests, productAfter};
 ghost use Rattle.message.specs.Format.{writeTests, written, readAs, readInto, told as Format·told};
 ghost use Rattle.arrival.specs.Arriving.{arrived, storeAfter, numberOf, heardAfter};
 ghost use Rattle.decode.specs.Decoding.{decodeTests, tableAfter};
+ghost use Rattle.page.specs.Page.{pageTests, pageAfter};
 ghost use Rattle.bench_stages.specs.Stages.{jobOf, headerOf, matrixOf, neededAfter, usedAfter};
 use arrival::Arrived;
 use masks::Drawn;
@@ -229,4 +230,13 @@ pub extern "C" fn stages_decode(
         ⌜ now (table .exit) ≡ tableAfter (jobOf numbers) (now (points .entry)) heard held (now (table .entry)) ⌝ }
 {
     decode::decode(job_of(numbers), points, heard, store, table)
+}
+
+// Writes a table as a page.
+#[no_mangle]
+pub extern "C" fn stages_page(modulus: u32, t: u32, r: u32, table: &[u32], out: &mut [u8]) -> u32
+    ensures number { λ n. let room = length (now (out .entry)) in ⌜ n ≡ first (pageTests modulus t r (now (table .entry)) room) ⌝ }
+    ensures text { λ _. ⌜ now (out .exit) ≡ pageAfter modulus t r (now (table .entry)) (now (out .entry)) ⌝ }
+{
+    page::write_page(modulus, t, r, table, out)
 }

@@ -12,7 +12,7 @@ use mathlib.Core.List.{List, [], _∷_, _++_}
 use Prim.Native.Nat.{ℕ, zero, suc, _+_, _-_, _*_, _/_, _≤_, _<_, min}
 use native.Mathlib.Omega.{arith}
 use lib.ListN.{length, length-append}
-use Rattle.algebra.specs.Lists.{tab, stack, entry}
+use Rattle.algebra.specs.Lists.{stack}
 use Rattle.algebra.specs.Sums.{sum}
 use Rattle.algebra.proofs.Lists.{length-tab}
 use Rattle.algebra.proofs.Stacks.{length-stack, length-parts}
@@ -48,11 +48,11 @@ length-line label f n five =
 
 pub length-heading : (r p : ℕ) → length (heading r p) ≡ 6 + 11 * across r p
 unfolding heading
-length-heading r p = length-line (spaces 5) (λ c. p * 6 + c + 1) (across r p) (length-spaces 5)
+length-heading r p = length-line (spaces 5) _ (across r p) (length-spaces 5)
 
 pub length-row : (r : ℕ) (table : List ℕ) (p i : ℕ) → i < 16384 → length (row r table p i) ≡ 6 + 11 * across r p
 unfolding row
-length-row r table p i h = length-line (cell 5 (i + 1)) (λ c. entry r table i (p * 6 + c)) (across r p) (length-label i h)
+length-row r table p i h = length-line (cell 5 (i + 1)) _ (across r p) (length-label i h)
 
 pub length-rows : (t r : ℕ) (table : List ℕ) (p : ℕ) → t ≤ 16384 → length (stack (row r table p) t) ≡ t * (6 + 11 * across r p)
 length-rows t r table p h = length-stack (row r table p) t (6 + 11 * across r p) (λ i l. length-row r table p i (omega arith))

@@ -1,6 +1,6 @@
-// Runs shares, products, messages, signed reading and drawings of masks on many inputs: cases come from standard input, one after
-// another, and what they return goes to standard output. Both are those of the separate Rust program, whose docs/src/calls/format.rs
-// tells their format.
+// Runs shares, products, messages, signed reading, drawings of masks and pages on many inputs: cases come from standard input, one
+// after another, and what they return goes to standard output. Both are those of the separate Rust program, whose
+// docs/src/calls/format.rs tells their format.
 ghost use mathlib.Core.Path.{_≡_};
 ghost use Prim.Native.Nat.{_≤_};
 ghost use lib.ListN.{length};
@@ -25,12 +25,14 @@ struct Ends {
 // What stands in an output of bytes before a call.
 const FILLING_BYTE: u8 = 0xA5;
 
-// The largest case: the words of its lists, the bytes of a message, the elements of an output.
+// The largest case: the words of its lists, the bytes of a message, the elements of an output, the bytes of a page.
 const MOST_WORDS: usize = 32896;
 
 const MOST_BYTES: usize = 20000;
 
 const MOST_ELEMENTS: usize = 8192;
+
+const MOST_PAGE: usize = 400000;
 
 // The words before a case's lists.
 const HEAD_WORDS: usize = 18;
@@ -56,14 +58,14 @@ fn ends_of(points: u32, xs: u32, ys: u32) -> Ends
     }
 }
 
-// Zeros for the lists. Of this and the next two, lending needs the length alone.
+// Zeros for the lists. Of this and the next three, lending needs the length alone.
 fn list_words() -> [u32; MOST_WORDS]
     ensures { λ r. ⌜ 32896 ≡ length r ⌝ }
 {
     [0; MOST_WORDS]
 }
 
-// An output of bytes, or room for a message.
+// An output of bytes for a message to write, or room for one to read.
 fn filled_message() -> [u8; MOST_BYTES]
     ensures { λ r. ⌜ 20000 ≡ length r ⌝ }
 {
@@ -75,6 +77,13 @@ fn filled_output() -> [u32; MOST_ELEMENTS]
     ensures { λ r. ⌜ 8192 ≡ length r ⌝ }
 {
     [test_io::FILLING; MOST_ELEMENTS]
+}
+
+// An output of bytes for a page.
+fn filled_page() -> [u8; MOST_PAGE]
+    ensures { λ r. ⌜ 400000 ≡ length r ⌝ }
+{
+    [FILLING_BYTE; MOST_PAGE]
 }
 
 // How many bytes there are up to the last that is not the filling.
@@ -92,8 +101,8 @@ fn filled_bytes(out: &[u8]) -> usize
 }
 
 // Writes an output of bytes: how many there are up to the last that is not the filling, and these.
-fn put_message(out: &[u8])
-    requires { ⌜ length (now out) ≤ 20000 ⌝ }
+fn put_bytes(out: &[u8])
+    requires { ⌜ length (now out) ≤ 400000 ⌝ }
 {
     let n = filled_bytes(out);
     test_io::put_number(n as u32);
@@ -254,7 +263,20 @@ fn print_write(head: [u32; HEAD_WORDS], xs: &[u32]) -> bool {
     };
     let number = message::write_message(header, xs, &mut out[..room]);
     test_io::put_number(number);
-    put_message(&out[..room]);
+    put_bytes(&out[..room]);
+    true
+}
+
+// Answers a case of a page to write; false where its output is too long.
+fn print_page(head: [u32; HEAD_WORDS], table: &[u32]) -> bool {
+    let room = head[17] as usize;
+    if MOST_PAGE < room {
+        return false;
+    }
+    let mut out = filled_page();
+    let number = page::write_page(head[1], head[2], head[3], table, &mut out[..room]);
+    test_io::put_number(number);
+    put_bytes(&out[..room]);
     true
 }
 
@@ -267,10 +289,11 @@ fn run_message(head: [u32; HEAD_WORDS], points: &[u32], xs: &[u32], ys: &[u32]) 
         return false;
     }
     let call = head[0];
-    if call == 4 {
-        return print_write(head, xs);
+    match call {
+        4 => print_write(head, xs),
+        9 => print_page(head, xs),
+        _ => print_call(head, points, xs, ys, &message[..n]),
     }
-    print_call(head, points, xs, ys, &message[..n])
 }
 
 // Answers a case with these lists; false where it is over the limits, or the input ended in it.

@@ -138,8 +138,8 @@ fn put_heard(out: &mut [u8], heard: u64) -> usize {
 }
 
 // Prints the hosts heard.
-pub(crate) fn say_heard(heard: u64, page: &mut [u8]) {
+pub(crate) fn say_heard(heard: u64, lines: &mut [u8]) {
     say(b"HEARD");
-    let n = put_heard(page, heard);
-    say_front(page, n);
+    let n = put_heard(lines, heard);
+    say_front(lines, n);
 }

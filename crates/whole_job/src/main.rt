@@ -1,15 +1,15 @@
 // A whole job: reads a job, its points, both matrices, the masks and the order of the answers from plain text, and does all
 // that the bank and the hosts do: plans, shares, multiplies, sends every block as a message, takes the answers in the order
-// given, and decodes. Prints the plan, what became of each answer, the table, and its signed reading.
+// given, and decodes. Prints the plan, what became of each answer, the table, its signed reading, and the kinship page.
 // README.md, "The text of a job", tells the format and every line that is printed.
 mod arrivals; // the answers taken, and the hosts heard
 mod hosts; // what a host does with its shares
 mod lines; // the numbers of a line
 mod planning; // the job, planned, with as many numbers as it needs
-mod rooms; // what main lends, sizes of blocks, and parts
+mod rooms; // what main lends, sizes of blocks and of the kinship page, and parts
 mod sections; // the sections of the text
 mod sharing; // shares for all hosts
-mod tables; // the table, decoded and printed
+mod tables; // the table, decoded and printed, and its kinship page
 
 use libc::STDIN_FILENO;
 use lister::LISTING_ROOM;
@@ -21,6 +21,7 @@ use rooms::answer_size;
 use rooms::block_room;
 use rooms::blocks;
 use rooms::element_room;
+use rooms::lines_room;
 use rooms::message_room;
 use rooms::page_room;
 use rooms::pair_room;
@@ -30,7 +31,7 @@ use text_numbers::past_mark;
 use words::least;
 
 // Runs the job of a text in the rooms lent: the text's numbers, the shares of all hosts, the answers that are taken, the table,
-// and a host's two shares, their product and a message; and a page of text to print.
+// and a host's two shares, their product and a message; lines to print, and the kinship page.
 fn run(
     text: &[u8],
     numbers: &mut [u32],
@@ -40,10 +41,11 @@ fn run(
     pair: &mut [u32],
     product: &mut [u32],
     message: &mut [u8],
-    page: &mut [u8; LISTING_ROOM],
+    lines: &mut [u8; LISTING_ROOM],
+    page: &mut [u8],
 ) {
     let mut starts = [0; 8];
-    let Prepared::Full(job, sizes, needed) = planning::prepare(text, numbers, &mut starts, page)
+    let Prepared::Full(job, sizes, needed) = planning::prepare(text, numbers, &mut starts, lines)
     else {
         return;
     };
@@ -67,8 +69,8 @@ fn run(
         product,
         message,
     );
-    arrivals::say_heard(heard, page);
-    tables::say_table(whole, numbers, heard, &store[..n], table, page);
+    arrivals::say_heard(heard, lines);
+    tables::say_table(whole, numbers, heard, &store[..n], table, lines, page);
 }
 
 // Reads the text, makes the rooms, and runs the job. A UTF-8 mark before the text is passed over.
@@ -86,6 +88,7 @@ fn main() {
     let mut pair = pair_room();
     let mut product = block_room();
     let mut message = message_room();
+    let mut lines = lines_room();
     let mut page = page_room();
     run(
         past_mark(&text[..n]),
@@ -96,6 +99,7 @@ fn main() {
         &mut pair,
         &mut product,
         &mut message,
+        &mut lines,
         &mut page,
     );
 }

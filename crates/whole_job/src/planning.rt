@@ -75,14 +75,14 @@ fn has_all(
     sizes: Sizes,
     numbers: &[u32],
     starts: &[usize; 8],
-    lines: &[usize; 7],
+    word_lines: &[usize; 7],
 ) -> bool {
     let mut section = sections::A;
     while section <= sections::MASKS_B {
         let has = numbers_of(numbers, starts, section).len();
         let needs = needed_in(section, job, sizes);
         if has != needs {
-            say_count(section, has, needs, lines[section]);
+            say_count(section, has, needs, word_lines[section]);
             return false;
         }
         section += 1;
@@ -118,9 +118,9 @@ fn say_unplanned(number: u32, points: usize, hosts: u32, line: usize) {
 }
 
 // Prints the lines of a plan, as the plan lister has them.
-fn say_plan(hosts: u32, plan: Plan, page: &mut [u8; LISTING_ROOM]) {
-    let n = lister::list_plan(hosts, plan, page);
-    say_front(page, n);
+fn say_plan(hosts: u32, plan: Plan, lines: &mut [u8; LISTING_ROOM]) {
+    let n = lister::list_plan(hosts, plan, lines);
+    say_front(lines, n);
 }
 
 // The sizes of a plan's blocks.
@@ -136,27 +136,27 @@ fn sizes_of(plan: Plan) -> Sizes {
 fn plan_sections(
     numbers: &[u32],
     starts: &[usize; 8],
-    lines: &[usize; 7],
-    page: &mut [u8; LISTING_ROOM],
+    word_lines: &[usize; 7],
+    lines: &mut [u8; LISTING_ROOM],
 ) -> Prepared {
     let front = numbers_of(numbers, starts, sections::JOB);
     if front.len() != JOB_NUMBERS {
-        say_count(sections::JOB, front.len(), JOB_NUMBERS, lines[0]);
+        say_count(sections::JOB, front.len(), JOB_NUMBERS, word_lines[0]);
         return Prepared::Wrong;
     }
     let job = job_of(front);
     let points = numbers_of(numbers, starts, sections::POINTS);
     match plan::plan_job(job, points) {
         Planned::Refused(number) => {
-            say_unplanned(number, points.len(), job.hosts, lines[1]);
+            say_unplanned(number, points.len(), job.hosts, word_lines[1]);
             Prepared::Wrong
         }
         Planned::Accepted(plan) => {
             let sizes = sizes_of(plan);
-            if is_too_large(job, sizes) || !has_all(job, sizes, numbers, starts, lines) {
+            if is_too_large(job, sizes) || !has_all(job, sizes, numbers, starts, word_lines) {
                 return Prepared::Wrong;
             }
-            say_plan(job.hosts, plan, page);
+            say_plan(job.hosts, plan, lines);
             Prepared::Full(job, sizes, plan.needed)
         }
     }
@@ -167,11 +167,11 @@ pub(crate) fn prepare(
     text: &[u8],
     numbers: &mut [u32],
     starts: &mut [usize; 8],
-    page: &mut [u8; LISTING_ROOM],
+    lines: &mut [u8; LISTING_ROOM],
 ) -> Prepared {
-    let mut lines = [0; 7];
-    if !sections::read_sections(text, numbers, starts, &mut lines) {
+    let mut word_lines = [0; 7];
+    if !sections::read_sections(text, numbers, starts, &mut word_lines) {
         return Prepared::Wrong;
     }
-    plan_sections(numbers, starts, &lines, page)
+    plan_sections(numbers, starts, &word_lines, lines)
 }

@@ -7,8 +7,10 @@ use lister::LISTING_ROOM;
 use refusal::MOST_ELEMENTS;
 use words::least;
 
-// The most hosts, as a length.
+// The most hosts, and the largest size of a matrix, as lengths.
 const MOST_HOSTS: usize = refusal::MOST_HOSTS as usize;
+
+const MOST_SIZE: usize = refusal::MOST_SIZE as usize;
 
 // The bytes before the elements of a message, and the most bytes that a message has.
 const HEADER: usize = 16;
@@ -18,6 +20,9 @@ const MOST_MESSAGE: usize = HEADER + 4 * MOST_ELEMENTS;
 // The most elements of a table, and of the blocks of one kind for all hosts. A text has no more numbers: a byte stands between
 // two, and it has fewer than twice as many bytes.
 pub(crate) const ELEMENT_ROOM: usize = 32768;
+
+// The most bytes of the kinship page of such a table: that of 2 by 16384.
+const PAGE_ROOM: usize = 592560;
 
 // Room for the shares of both matrices for all hosts: A's, then B's from the middle on.
 const SHARE_ROOM: usize = ELEMENT_ROOM + ELEMENT_ROOM;
@@ -62,9 +67,16 @@ pub(crate) fn message_room() -> [u8; MOST_MESSAGE]
     [0; MOST_MESSAGE]
 }
 
-// Room for a page of text to print, which a listing fills at most.
-pub(crate) fn page_room() -> [u8; LISTING_ROOM] {
+// Room for lines to print, which a listing fills at most.
+pub(crate) fn lines_room() -> [u8; LISTING_ROOM] {
     [0; LISTING_ROOM]
+}
+
+// Room for a kinship page.
+pub(crate) fn page_room() -> [u8; PAGE_ROOM]
+    ensures { λ r. ⌜ 592560 ≡ length r ⌝ }
+{
+    [0; PAGE_ROOM]
 }
 
 // ---- sizes
@@ -121,6 +133,18 @@ pub(crate) fn message_size(elements: usize) -> usize
     ensures { λ r. ⌜ r ≤ 16400 ⌝ }
 {
     HEADER + 4 * least(elements, MOST_ELEMENTS)
+}
+
+// How many bytes the kinship page of t rows and r columns has: panels of at most six columns, each with a heading and a line a
+// row, lines of 6 bytes and 11 for each column, and a blank line between two panels.
+pub(crate) fn page_size(t: u32, r: u32) -> usize {
+    if r == 0 {
+        return 0;
+    }
+    let columns = least(r as usize, MOST_SIZE);
+    let panels = (columns + 5) / 6;
+    let rows = least(t as usize, MOST_SIZE);
+    (rows + 1) * (6 * panels + 11 * columns) + (panels - 1)
 }
 
 // ---- parts

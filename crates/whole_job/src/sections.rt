@@ -170,7 +170,7 @@ pub(crate) fn read_sections(
     text: &[u8],
     numbers: &mut [u32],
     starts: &mut [usize; 8],
-    lines: &mut [usize; 7],
+    word_lines: &mut [usize; 7],
 ) -> bool {
     let mut at = text_numbers::first_token(text);
     let mut count = 0;
@@ -180,7 +180,7 @@ pub(crate) fn read_sections(
             return false;
         };
         let position = text_numbers::position_of(text, at);
-        lines[section] = position.line;
+        word_lines[section] = position.line;
         starts[section] = count;
         at = next;
         count = more;

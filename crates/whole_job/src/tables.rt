@@ -1,8 +1,9 @@
-// The table, decoded and printed.
+// The table, decoded and printed: its rows, and its kinship page.
 ghost use mathlib.Core.Path.{_≡_};
 ghost use lib.ListN.{length};
 use crate::planning::Whole;
 use crate::rooms::area;
+use crate::rooms::page_size;
 use crate::sections;
 use crate::sections::numbers_of;
 use field_signed::Signed;
@@ -12,8 +13,8 @@ use program_lines::say_front;
 use program_lines::say_refused;
 use words::least;
 
-// The bytes of a page after which it is printed.
-const PAGE_FULL: usize = 4000;
+// The bytes of lines after which they are printed.
+const LINES_FULL: usize = 4000;
 
 // The signed reading of an element of 32 bits lies between these.
 const LOWEST: i64 = -2147483647;
@@ -67,12 +68,12 @@ fn put_element(out: &mut [u8], at: usize, modulus: u32, v: u32, by_sign: bool) -
     text::put_decimal(out, at, v)
 }
 
-// Prints what is written so far where the page is nearly full, and returns the offset to go on at.
-fn flush(page: &[u8], at: usize) -> usize {
-    if at < PAGE_FULL {
+// Prints the lines that are written so far where their room is nearly full, and returns the offset to go on at.
+fn flush(lines: &[u8], at: usize) -> usize {
+    if at < LINES_FULL {
         return at;
     }
-    say_front(page, at);
+    say_front(lines, at);
     0
 }
 
@@ -113,18 +114,30 @@ fn put_rows(out: &mut [u8], modulus: u32, columns: u32, table: &[u32], by_sign: 
 }
 
 // Prints the rows of a table, as elements or by their signed reading.
-fn say_rows(modulus: u32, columns: u32, table: &[u32], by_sign: bool, page: &mut [u8]) {
-    let n = put_rows(page, modulus, columns, table, by_sign);
+fn say_rows(modulus: u32, columns: u32, table: &[u32], by_sign: bool, lines: &mut [u8]) {
+    let n = put_rows(lines, modulus, columns, table, by_sign);
+    say_front(lines, n);
+}
+
+// Prints the kinship page of the table, written in its room, or the number of the refusal.
+fn say_page(job: Job, table: &[u32], page: &mut [u8]) {
+    let n = least(page_size(job.t, job.r), page.len());
+    let number = page::write_page(job.modulus, job.t, job.r, table, &mut page[..n]);
+    if number != 0 {
+        return say_refused(number);
+    }
+    say(b"PAGE\n");
     say_front(page, n);
 }
 
-// Decodes the table and prints it and its signed reading, or the number of the refusal.
+// Decodes the table and prints it, its signed reading and its kinship page, or the number of the refusal.
 fn decode_into(
     job: Job,
     points: &[u32],
     heard: u64,
     store: &[u32],
     table: &mut [u32],
+    lines: &mut [u8],
     page: &mut [u8],
 ) {
     let number = decode::decode(job, points, heard, store, table);
@@ -132,9 +145,10 @@ fn decode_into(
         return say_refused(number);
     }
     say(b"TABLE\n");
-    say_rows(job.modulus, job.r, table, false, page);
+    say_rows(job.modulus, job.r, table, false, lines);
     say(b"SIGNED READING\n");
-    say_rows(job.modulus, job.r, table, true, page);
+    say_rows(job.modulus, job.r, table, true, lines);
+    say_page(job, table, page);
 }
 
 // Decodes and prints the table, in its room.
@@ -144,11 +158,12 @@ pub(crate) fn say_table(
     heard: u64,
     store: &[u32],
     table: &mut [u32],
+    lines: &mut [u8],
     page: &mut [u8],
 ) {
     let job = whole.job;
     let starts = whole.starts;
     let points = numbers_of(numbers, &starts, sections::POINTS);
     let n = least(area(job.t, job.r), table.len());
-    decode_into(job, points, heard, store, &mut table[..n], page);
+    decode_into(job, points, heard, store, &mut table[..n], lines, page);
 }

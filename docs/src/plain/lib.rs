@@ -10,6 +10,7 @@
 //!   arrival   an answer taken into the store
 //!   decode    the table from the answers
 //!   masks     masks drawn from random words
+//!   page      the table as lines of text
 //!   for_c     the product on bytes for a C program
 //!
 //! A refused call returns the sheet's number as an error, and leaves every buffer as it was.
@@ -20,6 +21,7 @@ mod field;
 mod for_c;
 pub mod masks;
 pub mod message;
+pub mod page;
 pub mod plan;
 pub mod product;
 pub mod share;

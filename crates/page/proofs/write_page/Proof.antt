@@ -74,7 +74,11 @@ returns-3 c =
     (rw (known-prime named .is-number, sized (c .before), other))
 
 page-length-requires : tie.Need-page-length-requires
-page-length-requires c κs = let s = within (c .before) in (s .tall .high, s .wide .low, s .wide .high)
+page-length-requires c κs =
+    let s = within (c .before) in
+    let tall = s .tall in
+    let wide = s .wide in
+    (omega arith, omega arith, omega arith)
 
 returns-4 : tie.Need-returns-4
 unfolding first pageTests

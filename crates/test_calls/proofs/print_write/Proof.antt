@@ -1,6 +1,7 @@
 -- `test_calls::print_write` meets its contract.
 use Prim.Native.Nat.{ℕ, _≤_}
 use mathlib.Core.Path.{sym, subst}
+use native.Mathlib.Omega.{arith}
 use lib.Seq.{length-take-le, length-front}
 use borrow.Author.Needs.{needs}
 use Rattle.test_calls.proofs.print_write.Statement.{statement}
@@ -51,11 +52,11 @@ put-number-requires c κs = search needs
 array-share-prefix-out : tie.Need-array-share-prefix-out
 array-share-prefix-out c = rw (length-front _ _ _ (c .before .out2 .given)) (array-borrow-prefix-out (c .before .before .before .before))
 
-slice-aggregate-put-message : tie.Need-slice-aggregate-put-message
-slice-aggregate-put-message c = sym (length-take-le _ _ (array-share-prefix-out (c .before)))
+slice-aggregate-put-bytes : tie.Need-slice-aggregate-put-bytes
+slice-aggregate-put-bytes c = sym (length-take-le _ _ (array-share-prefix-out (c .before)))
 
-put-message-requires : tie.Need-put-message-requires
-put-message-requires c κs = subst (λ (k : ℕ). k ≤ 20000) (slice-aggregate-put-message c) (c .before .before .before .before .before .before .if1 .left)
+put-bytes-requires : tie.Need-put-bytes-requires
+put-bytes-requires c κs = subst (λ (k : ℕ). k ≤ 400000) (slice-aggregate-put-bytes c) (omega (arith, c .before .before .before .before .before .before .if1 .left))
 
 returns-2 : tie.Need-returns-2
 returns-2 c = search needs
@@ -79,6 +80,6 @@ print-write-spec =
     write-message-requires
     put-number-requires
     array-share-prefix-out
-    slice-aggregate-put-message
-    put-message-requires
+    slice-aggregate-put-bytes
+    put-bytes-requires
     returns-2)

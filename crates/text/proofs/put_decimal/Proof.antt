@@ -16,7 +16,7 @@ slice-aggregate-put-digits : tie.Need-slice-aggregate-put-digits
 slice-aggregate-put-digits c = search needs
 
 put-digits-requires : tie.Need-put-digits-requires
-put-digits-requires c κs = decimal-length (c .before .before .args .n)
+put-digits-requires c κs = decimal-length _
 
 sub-put-bytes : tie.Need-sub-put-bytes
 sub-put-bytes c = search needs

@@ -68,7 +68,7 @@ say-table-requires c κs = tt
 
 same-length-4 : tie.Need-same-length-4
 same-length-4 c =
-    let heard = c .before .before .before .before .before .before .before .before .before .before .before .before .before .before .before .before .before in
+    let heard = c .before .before .before .before .before .before .before .before .before .before .before .before .before .before .before .before .before .before .before .before in
     let shared = heard .before .before .before .before .before .before .before .before .before .before .before .before .before in
     let ready = shared .before .before .before .before .before .before .before .before in
     omega (arith, ready .prepare .kept .1 .0)
@@ -90,6 +90,9 @@ same-length-9 c = omega arith
 
 same-length-10 : tie.Need-same-length-10
 same-length-10 c = omega arith
+
+same-length-11 : tie.Need-same-length-11
+same-length-11 c = omega arith
 
 returns-3 : tie.Need-returns-3
 returns-3 c = tt
@@ -125,4 +128,5 @@ run-spec =
     same-length-8
     same-length-9
     same-length-10
+    same-length-11
     returns-3)

@@ -6,10 +6,10 @@ use Rattle.whole_job.proofs.planning.has_all.Statement.{statement}
 use Rattle.whole_job.proofs.planning.has_all.Tie as tie
 
 abbrev Inv-loop : tie.InvT-loop
-Inv-loop job sizes numbers starts lines section₀ section = section ≤ 6
+Inv-loop job sizes numbers starts word-lines section₀ section = section ≤ 6
 
 abbrev μ-loop : tie.MeasureT-loop
-μ-loop job sizes numbers starts lines section₀ section = 6 - section
+μ-loop job sizes numbers starts word-lines section₀ section = 6 - section
 
 loop-holds : tie.Need-loop-holds Inv-loop μ-loop
 loop-holds c = omega arith

@@ -8,11 +8,11 @@ use Rattle.whole_job.proofs.sections.read_sections.Statement.{statement
 use Rattle.whole_job.proofs.sections.read_sections.Tie as tie
 
 abbrev Inv-loop : tie.InvT-loop
-Inv-loop text numbers₀ starts₀ lines₀ at₀ count₀ section₀ t11 t12 numbers starts lines at count section =
+Inv-loop text numbers₀ starts₀ word-lines₀ at₀ count₀ section₀ t11 t12 numbers starts word-lines at count section =
     length numbers ≡ length numbers₀
 
 abbrev μ-loop : tie.MeasureT-loop
-μ-loop text numbers₀ starts₀ lines₀ at₀ count₀ section₀ t11 t12 numbers starts lines at count section =
+μ-loop text numbers₀ starts₀ word-lines₀ at₀ count₀ section₀ t11 t12 numbers starts word-lines at count section =
     7 - section
 
 first-token-requires : tie.Need-first-token-requires Inv-loop μ-loop
@@ -39,11 +39,11 @@ returns c = search needs
 position-of-requires : tie.Need-position-of-requires Inv-loop μ-loop
 position-of-requires c κs = search needs
 
-mul-lines : tie.Need-mul-lines Inv-loop μ-loop
-mul-lines c = omega arith
+mul-word-lines : tie.Need-mul-word-lines Inv-loop μ-loop
+mul-word-lines c = omega arith
 
-element-write-lines : tie.Need-element-write-lines Inv-loop μ-loop
-element-write-lines c = omega arith
+element-write-word-lines : tie.Need-element-write-word-lines Inv-loop μ-loop
+element-write-word-lines c = omega arith
 
 mul-starts : tie.Need-mul-starts Inv-loop μ-loop
 mul-starts c = omega arith
@@ -104,8 +104,8 @@ read-sections-spec =
     same-length
     returns
     position-of-requires
-    mul-lines
-    element-write-lines
+    mul-word-lines
+    element-write-word-lines
     mul-starts
     element-write-starts
     add-section

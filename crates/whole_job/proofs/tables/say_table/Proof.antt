@@ -30,6 +30,9 @@ same-length c = omega arith
 same-length-2 : tie.Need-same-length-2
 same-length-2 c = omega arith
 
+same-length-3 : tie.Need-same-length-3
+same-length-3 c = omega arith
+
 returns : tie.Need-returns
 returns c = tt
 
@@ -45,4 +48,5 @@ say-table-spec =
     decode-into-requires
     same-length
     same-length-2
+    same-length-3
     returns)
