@@ -21,16 +21,48 @@ const LABEL: usize = 5;
 
 const CELL: usize = 11;
 
+// The first number of more than five digits, and the columns before the last five of a cell.
+const LARGE: u32 = 100000;
+
+const FRONT: usize = 6;
+
 // The most elements of a line.
 const MOST_ACROSS: usize = 6;
+
+// Fills some columns with a number that has room in them.
+fn fill_short(out: &mut [u8], n: u32)
+    requires { ⌜ length (decimal n) ≤ length (now out) ⌝ }
+    ensures { λ _. ⌜ now (out .exit) ≡ cell (length (now (out .entry))) n ⌝ }
+{
+    text::fill(out, SPACE);
+    text::put_digits(out, n);
+}
+
+// Fills the 11 columns of an element or a column number. Its last five digits are written apart from those before them: where the
+// compiler knows how few places there are, it needs no loop.
+fn fill_long(out: &mut [u8], n: u32)
+    requires { ⌜ length (now out) ≡ 11 ⌝ }
+    ensures { λ _. ⌜ now (out .exit) ≡ cell 11 n ⌝ }
+{
+    if n < LARGE {
+        text::fill(&mut out[..FRONT], SPACE);
+        fill_short(&mut out[FRONT..], n);
+    } else {
+        fill_short(&mut out[..FRONT], n / LARGE);
+        text::put_last_digits(&mut out[FRONT..], n);
+    }
+}
 
 // Fills a cell with a number that has room in it.
 fn fill_cell(out: &mut [u8], n: u32)
     requires { ⌜ length (decimal n) ≤ length (now out) ⌝ }
     ensures { λ _. ⌜ now (out .exit) ≡ cell (length (now (out .entry))) n ⌝ }
 {
-    text::fill(out, SPACE);
-    text::put_digits(out, n);
+    if out.len() == CELL {
+        fill_long(out, n);
+    } else {
+        fill_short(out, n);
+    }
 }
 
 // Writes a number, right-aligned in so many columns.

@@ -7,22 +7,26 @@
 --   decimal-one                     a number of one digit
 --   decimal-tens, decimal-more      a larger one: its last digit after those of its tenth, and a digit after others
 --   numerals                        the digits of a number of at most ten digits: the statement of specs/Numerals.antt
---   Digits                          the last digits of n at the end of a buffer, from index `start` + 1 on, and the rest of n
+--   last-digit                      a number less ten times its tenth is its last digit
+--   Digits                          the last digits of n at the end of a buffer, from index `start` on, and the rest of n
 --   digits-start, digits-more       none of them, and one more
 --   digits-room                     there is room for one more
 --   digits-last, digits-first       the first digit of n makes them whole, and where it stands
-use mathlib.Core.Path.{_≡_, refl, sym, ap, _∙_, subst}
+--   last-digits-more, length-last-digits   one more of the last digits, and how many there are
+--   decimal-last                    the last digits stand behind those of the rest
+use mathlib.Core.Path.{_≡_, refl, sym, ap, ap₂, _∙_, subst}
 use mathlib.Core.Logic.{⊎-elim}
-use mathlib.Core.List.{List, [], _∷_, _++_, append-nil}
+use mathlib.Core.List.{List, [], _∷_, _++_, append-nil, append-assoc}
 use Prim.Native.Nat.{ℕ, zero, suc, _+_, _-_, _*_, _/_, _%_, _^_, _<_, _≤_}
-use native.Mathlib.Nat.{pow-suc, le-refl}
+use native.Mathlib.Nat.{pow-suc, one-le-pow, div-div-eq-div-mul, le-refl}
 use native.Mathlib.Omega.{arith}
-use lib.ListN.{length, getD, List·getD-append, take, drop, set, length-append, length-drop, length-set, drop-of-length-le}
-use lib.Seq.{getD-at, append-snoc, set-split, drop-at, take-set-le, take-take, length-take-le}
+use lib.ListN.{length, getD, List·getD-append, take, drop, set, length-append, length-drop, length-set, take-append-drop}
+use lib.Seq.{getD-at, append-snoc, set-split, drop-at, drop-length, take-set-le, take-take, length-take-le}
 use borrow.Author.Tests.{lt-ltb, le-ltb}
 use Rattle.algebra.proofs.Orders.{le-or-lt}
 use Rattle.text.specs.Decimal.{digit, spell, decimal}
 use Rattle.text.specs.Numerals.{value, Numerals}
+use Rattle.text.specs.Contracts.{lastDigits}
 
 pub spell-last : (k n : ℕ) → n < 10 → spell (suc k) n ≡ digit n ∷ []
 unfolding spell
@@ -161,6 +165,10 @@ numerals n h = record {
   leads = λ pos. spell-leads 9 n pos h;
 }
 
+pub last-digit : (n : ℕ) → 48 + (n - 10 * (n / 10)) ≡ digit (n % 10)
+unfolding digit
+last-digit n = omega arith
+
 -- a byte stored, and those behind it
 stored : (bytes : List ℕ) (i v : ℕ) → i < length bytes → drop i (set bytes i v) ≡ v ∷ drop (suc i) bytes
 stored bytes i v h =
@@ -169,62 +177,93 @@ stored bytes i v h =
 pub record Digits (n : ℕ) (was bytes : List ℕ) (start rest : ℕ) : Type 0 where
   pub room : length (decimal n) ≤ length was
   pub same : length bytes ≡ length was
-  pub within : start < length was
+  pub within : start ≤ length was
   pub small : rest < 2 ^ 32
   pub kept : take start bytes ≡ take start was
-  pub is : decimal rest ++ drop (suc start) bytes ≡ decimal n
+  pub is : decimal rest ++ drop start bytes ≡ decimal n
 
-pub digits-start : (n : ℕ) (was : List ℕ) → n < 2 ^ 32 → length (decimal n) ≤ length was → Digits n was was (length was - 1) n
+pub digits-start : (n : ℕ) (was : List ℕ) → n < 2 ^ 32 → length (decimal n) ≤ length was → Digits n was was (length was) n
 digits-start n was h room = record {
   room = room;
   same = refl;
-  within = omega (arith, decimal-some n);
+  within = le-refl (length was);
   small = h;
   kept = refl;
-  is = ap (λ (xs : List ℕ). decimal n ++ xs) (drop-of-length-le was {i = suc (length was - 1)} (omega arith)) ∙ append-nil (decimal n);
+  is = ap (λ (xs : List ℕ). decimal n ++ xs) (drop-length was) ∙ append-nil (decimal n);
 }
 
 module _ {n : ℕ} {was bytes : List ℕ} {start rest : ℕ} (d : Digits n was bytes start rest) where
-  -- the rest has room
-  left : length (decimal rest) ≤ suc start
-  left =
-      omega (arith, ap length (d .is), length-append (decimal rest) (drop (suc start) bytes), length-drop (suc start) bytes, d .room, d .same, d .within)
+  pub digits-room : 0 < start
+  digits-room =
+      omega (arith, decimal-some rest, ap length (d .is), length-append (decimal rest) (drop start bytes), length-drop start bytes, d .room, d .same, d .within)
 
-  pub digits-room : 10 ≤ rest → 0 < start
-  digits-room b =
-      let tens = ap length (decimal-tens rest b (omega (arith, d .small))) in
-      omega (arith, left, tens, length-append (decimal (rest / 10)) (digit (rest % 10) ∷ []), decimal-some (rest / 10))
+  -- the next digit, and those behind it
+  module _ (i : ℕ) (next : suc i ≡ start) where
+    here : i < length bytes
+    here = omega (arith, d .within, d .same)
 
-  pub digits-more : 10 ≤ rest → Digits n was (set bytes start (digit (rest % 10))) (start - 1) (rest / 10)
-  digits-more b =
-      let v : ℕ = digit (rest % 10) in
-      let here : start < length bytes = omega (arith, d .within, d .same) in
-      let e : suc (start - 1) ≡ start = omega (arith, digits-room b) in
-      let before : take start (set bytes start v) ≡ take start was = take-set-le start bytes start v (le-refl start) ∙ d .kept in
-      record {
-        room = d .room;
-        same = length-set bytes start v ∙ d .same;
-        within = omega (arith, d .within);
-        small = omega (arith, d .small);
-        kept =
-            sym (take-take (start - 1) start (set bytes start v) (omega arith))
-            ∙ ap (take (start - 1)) before
-            ∙ take-take (start - 1) start was (omega arith);
-        is =
-            ap (λ (k : ℕ). decimal (rest / 10) ++ drop k (set bytes start v)) e
-            ∙ ap (λ (xs : List ℕ). decimal (rest / 10) ++ xs) (stored bytes start v here)
-            ∙ sym (append-snoc (decimal (rest / 10)) v (drop (suc start) bytes))
-            ∙ ap (λ (xs : List ℕ). xs ++ drop (suc start) bytes) (sym (decimal-tens rest b (omega (arith, d .small))))
-            ∙ d .is;
-      }
+    before : (v : ℕ) → take i (set bytes i v) ≡ take i was
+    before v =
+        take-set-le i bytes i v (le-refl i)
+        ∙ sym (take-take i start bytes (omega arith))
+        ∙ ap (take i) (d .kept)
+        ∙ take-take i start was (omega arith)
 
-  pub digits-last : rest < 10 → set bytes start (digit rest) ≡ take start was ++ decimal n
-  digits-last b =
-      set-split bytes start (digit rest) (omega (arith, d .within, d .same))
-      ∙ ap (λ (xs : List ℕ). xs ++ digit rest ∷ drop (suc start) bytes) (d .kept)
-      ∙ ap (λ (xs : List ℕ). take start was ++ (xs ++ drop (suc start) bytes)) (sym (decimal-one rest b))
-      ∙ ap (λ (xs : List ℕ). take start was ++ xs) (d .is)
+    behind : (v : ℕ) → drop i (set bytes i v) ≡ v ∷ drop start bytes
+    behind v = stored bytes i v here ∙ ap (λ (k : ℕ). v ∷ drop k bytes) next
 
-  pub digits-first : rest < 10 → start + length (decimal n) ≡ length was
-  digits-first b =
-      omega (arith, ap length (d .is), ap length (decimal-one rest b), length-append (decimal rest) (drop (suc start) bytes), length-drop (suc start) bytes, d .same, d .within)
+    pub digits-more : (v : ℕ) → v ≡ digit (rest % 10) → 10 ≤ rest → Digits n was (set bytes i v) i (rest / 10)
+    digits-more v next-is b =
+        record {
+          room = d .room;
+          same = length-set bytes i v ∙ d .same;
+          within = omega (arith, d .within);
+          small = omega (arith, d .small);
+          kept = before v;
+          is =
+              ap (λ (xs : List ℕ). decimal (rest / 10) ++ xs) (behind v ∙ ap (λ (x : ℕ). x ∷ drop start bytes) next-is)
+              ∙ sym (append-snoc (decimal (rest / 10)) (digit (rest % 10)) (drop start bytes))
+              ∙ ap (λ (xs : List ℕ). xs ++ drop start bytes) (sym (decimal-tens rest b (omega (arith, d .small))))
+              ∙ d .is;
+        }
+
+    pub digits-last : (v : ℕ) → v ≡ digit (rest % 10) → rest < 10 → set bytes i v ≡ take i was ++ decimal n
+    digits-last v next-is b =
+        let one : rest % 10 ≡ rest = omega arith in
+        sym (take-append-drop i (set bytes i v))
+        ∙ ap₂ (λ (xs ys : List ℕ). xs ++ ys) (before v) (behind v)
+        ∙ ap (λ (xs : List ℕ). take i was ++ (xs ++ drop start bytes)) (ap (λ (x : ℕ). x ∷ []) (next-is ∙ ap digit one) ∙ sym (decimal-one rest b))
+        ∙ ap (λ (xs : List ℕ). take i was ++ xs) (d .is)
+
+    pub digits-first : rest < 10 → i + length (decimal n) ≡ length was
+    digits-first b =
+        omega (arith, ap length (d .is), ap length (decimal-one rest b), length-append (decimal rest) (drop start bytes), length-drop start bytes, d .same, d .within)
+
+-- the next of the last digits, in its place
+pub last-digits-more : (i rest v : ℕ) (bytes : List ℕ) → v ≡ digit (rest % 10) → i < length bytes
+    → lastDigits i (rest / 10) ++ drop i (set bytes i v) ≡ lastDigits (suc i) rest ++ drop (suc i) bytes
+unfolding lastDigits
+last-digits-more i rest v bytes next-is h =
+    ap (λ (xs : List ℕ). lastDigits i (rest / 10) ++ xs) (stored bytes i v h ∙ ap (λ (x : ℕ). x ∷ drop (suc i) bytes) next-is)
+    ∙ sym (append-snoc (lastDigits i (rest / 10)) (digit (rest % 10)) (drop (suc i) bytes))
+
+pub length-last-digits : (k n : ℕ) → length (lastDigits k n) ≡ k
+unfolding lastDigits
+length-last-digits zero n = refl
+length-last-digits (suc k) n = omega (arith, length-append (lastDigits k (n / 10)) (digit (n % 10) ∷ []), length-last-digits k (n / 10))
+
+pub decimal-last : (k n : ℕ) → 10 ^ k ≤ n → n < 10 ^ 10 → decimal n ≡ decimal (n / 10 ^ k) ++ lastDigits k n
+unfolding lastDigits
+decimal-last zero n b h =
+    let whole : n ≡ n / 1 = omega arith in
+    ap decimal whole ∙ sym (append-nil (decimal (n / 1)))
+decimal-last (suc k) n b h =
+    let power = pow-suc 10 k in
+    let tens : 10 ≤ n = omega (arith, power, one-le-pow k 10 (omega arith)) in
+    let left : 10 ^ k ≤ n / 10 = omega (arith, power) in
+    let power-is : 10 * 10 ^ k ≡ 10 ^ suc k = omega (arith, power) in
+    let rest : n / 10 / 10 ^ k ≡ n / 10 ^ suc k = div-div-eq-div-mul n 10 (10 ^ k) ∙ ap (λ (m : ℕ). n / m) power-is in
+    decimal-tens n tens h
+    ∙ ap (λ (xs : List ℕ). xs ++ (digit (n % 10) ∷ [])) (decimal-last k (n / 10) left (omega arith))
+    ∙ append-assoc (decimal (n / 10 / 10 ^ k)) (lastDigits k (n / 10)) (digit (n % 10) ∷ [])
+    ∙ ap (λ (m : ℕ). decimal m ++ (lastDigits k (n / 10) ++ (digit (n % 10) ∷ []))) rest

@@ -39,14 +39,15 @@ writes-over out at text over = record { kept = refl; within = λ h. h; is = λ f
 pub writes-part : (out : List ℕ) (at : ℕ) (text : List ℕ) {part : List ℕ} {k end : ℕ} → at + length text ≤ length out → part ≡ text
     → k ≡ length text → end ≡ at + length text → Writes out at text (take at out ++ (part ++ drop k (drop at out))) end
 writes-part out at text {k = k} room is long behind =
-    writes out at text
-    (behind ∙ sym (after-fits out at text room),
-    ap (λ (xs : List ℕ). take at out ++ (xs ++ drop k (drop at out))) is
-    ∙ ap (λ (n : ℕ). take at out ++ (text ++ drop n (drop at out))) long
-    ∙ ap (λ (xs : List ℕ). take at out ++ (text ++ xs)) (drop-drop (length text) at out)
-    ∙ sym (append-assoc (take at out) text (drop (at + length text) out))
-    ∙ ap (λ (xs : List ℕ). take at out ++ xs ++ drop (at + length text) out) (sym (take-length text))
-    ∙ sym (put-fits out at text room))
+    writes out at text (
+      behind ∙ sym (after-fits out at text room),
+      ap (λ (xs : List ℕ). take at out ++ (xs ++ drop k (drop at out))) is
+          ∙ ap (λ (n : ℕ). take at out ++ (text ++ drop n (drop at out))) long
+          ∙ ap (λ (xs : List ℕ). take at out ++ (text ++ xs)) (drop-drop (length text) at out)
+          ∙ sym (append-assoc (take at out) text (drop (at + length text) out))
+          ∙ ap (λ (xs : List ℕ). take at out ++ xs ++ drop (at + length text) out) (sym (take-length text))
+          ∙ sym (put-fits out at text room),
+    )
 
 pub then : {a b c xs ys : List ℕ} {at e f : ℕ} → Writes a at xs b e → Writes b e ys c f → Writes a at (xs ++ ys) c f
 then {a} {b} {c} {xs} {ys} {at} {e} {f} p q = record { kept = q .kept ∙ p .kept; within = within; is = is; behind = behind }

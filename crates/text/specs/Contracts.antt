@@ -1,5 +1,6 @@
--- Bytes put into a buffer; and text written into it, as a fact of the buffer before and after.
+-- The last digits of a number; bytes put into a buffer; and text written into it, as a fact of the buffer before and after.
 --
+--   lastDigits k n        == the last k digits of n, with zeros in front where it has fewer
 --   fits buffer at bytes  == the bytes have room in the buffer from offset `at` on
 --   put buffer at bytes   == the buffer with the bytes from offset `at` on where they fit, and as it was where they do not
 --   after at bytes buffer == the offset after the bytes where they fit, and `at` where they do not
@@ -8,10 +9,15 @@
 --                            the buffer
 use mathlib.Core.Path.{_≡_}
 use mathlib.Core.Bool.{Bool, cond}
-use mathlib.Core.List.{List, _++_}
-use Prim.Native.Nat.{ℕ, _+_, _≤_}
+use mathlib.Core.List.{List, [], _∷_, _++_}
+use Prim.Native.Nat.{ℕ, zero, suc, _+_, _/_, _%_, _≤_}
 use lib.Dec.{leb}
 use lib.ListN.{length, take, drop}
+use Rattle.text.specs.Decimal.{digit}
+
+unfoldable pub lastDigits : ℕ → ℕ → List ℕ
+lastDigits zero n = []
+lastDigits (suc k) n = lastDigits k (n / 10) ++ (digit (n % 10) ∷ [])
 
 unfoldable pub fits : List ℕ → ℕ → List ℕ → Bool
 fits buffer at bytes = leb (at + length bytes) (length buffer)

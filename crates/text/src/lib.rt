@@ -5,7 +5,7 @@ ghost use Prim.Native.Nat.{_+_, _≤_};
 ghost use lib.ListN.{length, take};
 ghost use Rattle.algebra.specs.Lists.{tab};
 ghost use Rattle.text.specs.Decimal.{decimal};
-ghost use Rattle.text.specs.Contracts.{put, after};
+ghost use Rattle.text.specs.Contracts.{lastDigits, put, after};
 
 // The byte of the digit 0.
 const ZERO: u8 = 48;
@@ -44,21 +44,39 @@ pub fn fill(out: &mut [u8], byte: u8)
     }
 }
 
-// Writes the decimal digits of n to the end of a buffer that has room for them, and returns the offset of the first.
+// Writes the decimal digits of n to the end of a buffer that has room for them, and returns the offset of the first. The loop goes
+// over the places, which are never all passed: where the compiler knows how many there are, it needs no loop.
 pub fn put_digits(out: &mut [u8], n: u32) -> usize
     requires { ⌜ length (decimal n) ≤ length (now out) ⌝ }
     ensures start { λ r. ⌜ r + length (decimal n) ≡ length (now (out .entry)) ⌝ }
     ensures digits { λ r. ⌜ now (out .exit) ≡ take r (now (out .entry)) ++ decimal n ⌝ }
 {
-    let mut start = out.len() - 1;
+    let mut start = out.len();
     let mut rest = n;
-    while 10 <= rest {
-        out[start] = ZERO + (rest % 10) as u8;
-        rest = rest / 10;
+    while 0 < start {
         start -= 1;
+        let tenth = rest / 10;
+        out[start] = ZERO + (rest - 10 * tenth) as u8;
+        if rest < 10 {
+            return start;
+        }
+        rest = tenth;
     }
-    out[start] = ZERO + rest as u8;
     start
+}
+
+// Fills a buffer with the last digits of n, as many as it has bytes.
+pub fn put_last_digits(out: &mut [u8], n: u32)
+    ensures { λ _. ⌜ now (out .exit) ≡ lastDigits (length (now (out .entry))) n ⌝ }
+{
+    let mut start = out.len();
+    let mut left = n;
+    while 0 < start {
+        start -= 1;
+        let tenth = left / 10;
+        out[start] = ZERO + (left - 10 * tenth) as u8;
+        left = tenth;
+    }
 }
 
 // Writes the decimal digits of n from offset `at` on and returns the offset after them. Where they do not fit, it writes

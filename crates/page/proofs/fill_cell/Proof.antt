@@ -1,43 +1,33 @@
 -- `page::fill_cell` meets its contract.
 use mathlib.Core.Path.{_≡_, ap, _∙_}
-use mathlib.Core.List.{List, _++_}
-use Prim.Native.Nat.{ℕ, _+_, _-_}
+use Prim.Native.Nat.{ℕ}
 use native.Mathlib.Omega.{arith}
-use lib.ListN.{length, take}
+use lib.ListN.{length}
 use borrow.Author.Needs.{needs}
-use Rattle.algebra.specs.Lists.{tab}
-use Rattle.algebra.proofs.Lists.{length-tab, take-tab}
-use Rattle.text.specs.Decimal.{decimal}
-use Rattle.page.specs.Page.{spaces, cell}
+use Rattle.page.specs.Page.{cell}
 use Rattle.page.proofs.fill_cell.Statement.{statement}
 use Rattle.page.proofs.fill_cell.Tie as tie
 
-fill-requires : tie.Need-fill-requires
-fill-requires c κs = search needs
+fill-long-requires : tie.Need-fill-long-requires
+fill-long-requires c κs = search needs
 
-put-digits-requires : tie.Need-put-digits-requires
-put-digits-requires c κs = search needs
+fill-short-requires : tie.Need-fill-short-requires
+fill-short-requires c κs = search needs
 
 same-length : tie.Need-same-length
 same-length c = search needs
 
--- digits at the end of spaces
-filled : (width n start : ℕ) (blank : List ℕ) → blank ≡ tab (λ i. 32) width → start + length (decimal n) ≡ length blank
-    → take start blank ++ decimal n ≡ cell width n
-unfolding cell spaces
-filled width n start blank is room =
-    let wide : start + length (decimal n) ≡ width = room ∙ ap length is ∙ length-tab {A = ℕ} (λ i. 32) width in
-    let here : start ≡ width - length (decimal n) = omega arith in
-    ap (λ (xs : List ℕ). take start xs ++ decimal n) is
-    ∙ ap (λ (xs : List ℕ). xs ++ decimal n) (take-tab {A = ℕ} (λ i. 32) start width (omega arith))
-    ∙ ap (λ (k : ℕ). tab (λ i. 32) k ++ decimal n) here
-
 returns : tie.Need-returns
 returns c =
-    let digits = c .before .before .put-digits .ensures in
-    let blank = c .before .before .before .before .before .before .fill in
-    let a = c .before .before .before .before .before .before .before .before .before .args in
-    digits .1 ∙ filled (length (a .out .now)) (a .n) _ _ (blank .ensures) (digits .0)
+    let a = c .before .before .before .before .before .before .args in
+    let wide : 11 ≡ length (a .out .now) = omega arith in
+    c .before .before .fill-long .ensures ∙ ap (λ (k : ℕ). cell k (a .n)) wide
+
+same-length-2 : tie.Need-same-length-2
+same-length-2 c = search needs
+
+returns-2 : tie.Need-returns-2
+returns-2 c = search needs
 
 pub fill-cell-spec : {M : Type 1} → statement M
-fill-cell-spec = tie.close (tie.spec fill-requires put-digits-requires same-length returns)
+fill-cell-spec = tie.close (tie.spec fill-long-requires fill-short-requires same-length returns same-length-2 returns-2)

@@ -1,10 +1,9 @@
 -- `text::put_digits` meets its contract.
-use mathlib.Core.Path.{_∙_}
-use Prim.Native.Nat.{_+_}
+use mathlib.Core.Path.{_≡_, _∙_}
+use Prim.Native.Nat.{ℕ, suc, _-_, _<_}
 use native.Mathlib.Omega.{arith}
 use lib.ListN.{length-set}
-use Rattle.text.specs.Decimal.{digit}
-use Rattle.text.proofs.Decimals.{decimal-some, Digits, digits-start, digits-more, digits-room, digits-last, digits-first}
+use Rattle.text.proofs.Decimals.{last-digit, Digits, digits-start, digits-more, digits-room, digits-last, digits-first}
 use Rattle.text.proofs.put_digits.Statement.{statement}
 use Rattle.text.proofs.put_digits.Tie as tie
 
@@ -14,12 +13,17 @@ Inv-loop out₀ n start₀ rest₀ out start rest = Digits n out₀ out start re
 abbrev μ-loop : tie.MeasureT-loop
 μ-loop out₀ n start₀ rest₀ out start rest = start
 
-sub-start : tie.Need-sub-start Inv-loop μ-loop
-sub-start c = omega (arith, decimal-some (c .args .n), c .pre)
-
 loop-holds : tie.Need-loop-holds Inv-loop μ-loop
-loop-holds c =
-    digits-start (c .args .n) (c .args .out .now) (omega arith) (c .pre)
+loop-holds c = digits-start (c .args .n) (c .args .out .now) (omega arith) (c .pre)
+
+sub-start : tie.Need-sub-start Inv-loop μ-loop
+sub-start c = omega arith
+
+mul-out : tie.Need-mul-out Inv-loop μ-loop
+mul-out c = omega arith
+
+sub-out : tie.Need-sub-out Inv-loop μ-loop
+sub-out c = omega arith
 
 cast-out : tie.Need-cast-out Inv-loop μ-loop
 cast-out c = omega arith
@@ -30,33 +34,35 @@ add-out c = omega arith
 slice-write-out : tie.Need-slice-write-out Inv-loop μ-loop
 slice-write-out c = omega arith
 
-sub-start-2 : tie.Need-sub-start-2 Inv-loop μ-loop
-sub-start-2 c = digits-room (c .before .loop .inv) (omega arith)
-
-loop-less : tie.Need-loop-less Inv-loop μ-loop
-loop-less c = omega (arith, digits-room (c .before .loop .inv) (omega arith))
-
-loop-again : tie.Need-loop-again Inv-loop μ-loop
-unfolding digit
-loop-again c = digits-more (c .before .loop .inv) (omega arith)
-
-cast-out-2 : tie.Need-cast-out-2 Inv-loop μ-loop
-cast-out-2 c = omega arith
-
-add-out-2 : tie.Need-add-out-2 Inv-loop μ-loop
-add-out-2 c = omega arith
-
-slice-write-out-2 : tie.Need-slice-write-out-2 Inv-loop μ-loop
-slice-write-out-2 c = omega arith
+-- the place of the next digit
+place : (start : ℕ) → 0 < start → suc (start - 1) ≡ start
+place start h = omega arith
 
 same-length : tie.Need-same-length Inv-loop μ-loop
-same-length c = let l = c .before .loop in length-set (l .out) (l .start) (48 + l .rest) ∙ l .inv .same
+same-length c =
+    let l = c .before .before .loop in
+    length-set (l .out) (l .start - 1) _ ∙ l .inv .same
 
 returns : tie.Need-returns Inv-loop μ-loop
-unfolding digit
 returns c =
-    let inv = c .before .loop .inv in
-    (digits-first inv (omega arith), digits-last inv (omega arith))
+    let l = c .before .before .loop in
+    let next = place (l .start) (digits-room (l .inv)) in
+    (digits-first (l .inv) (l .start - 1) next (omega arith), digits-last (l .inv) (l .start - 1) next _ (last-digit (l .rest)) (omega arith))
+
+loop-less : tie.Need-loop-less Inv-loop μ-loop
+loop-less c = omega arith
+
+loop-again : tie.Need-loop-again Inv-loop μ-loop
+loop-again c =
+    let l = c .before .before .loop in
+    digits-more (l .inv) (l .start - 1) (place (l .start) (digits-room (l .inv))) _ (last-digit (l .rest)) (omega arith)
+
+same-length-2 : tie.Need-same-length-2 Inv-loop μ-loop
+same-length-2 c = c .before .loop .inv .same
+
+-- there is always room
+returns-2 : tie.Need-returns-2 Inv-loop μ-loop
+returns-2 c = absurd (omega (arith, digits-room (c .before .loop .inv)))
 
 pub put-digits-spec : {M : Type 1} → statement M
 put-digits-spec =
@@ -64,16 +70,16 @@ put-digits-spec =
     (tie.spec
     Inv-loop
     μ-loop
-    sub-start
     loop-holds
+    sub-start
+    mul-out
+    sub-out
     cast-out
     add-out
     slice-write-out
-    sub-start-2
+    same-length
+    returns
     loop-less
     loop-again
-    cast-out-2
-    add-out-2
-    slice-write-out-2
-    same-length
-    returns)
+    same-length-2
+    returns-2)
