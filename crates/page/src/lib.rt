@@ -1,15 +1,16 @@
 // The kinship page (02, U6): a table as lines of text. `specs/Page.antt` tells how.
 // A function put_.. writes from an offset of the buffer on and returns the offset behind.
 ghost use mathlib.Core.Path.{_≡_};
+ghost use mathlib.Core.Bool.{_||_};
 ghost use mathlib.Core.List.{[]};
 ghost use Prim.Native.Nat.{_+_, _*_, _<_, _≤_};
 ghost use lib.ListN.{length};
 ghost use Rattle.algebra.specs.Lists.{tab};
-ghost use Rattle.refusal.specs.Chain.{first};
+ghost use Rattle.refusal.specs.Chain.{first, outside};
 ghost use Rattle.text.specs.Decimal.{decimal};
 ghost use Rattle.text.specs.Contracts.{Writes};
 ghost use Rattle.page.specs.Page.{cell, panels, across, heading, panel, gap, page, pageLength, pageTests, pageAfter};
-ghost use Rattle.page.specs.Contracts.{lineOf};
+ghost use Rattle.page.specs.Contracts.{roomFor, lineOf};
 use field::Named;
 use refusal::MOST_SIZE;
 use words::least;
@@ -167,13 +168,30 @@ fn panel_count(r: usize) -> usize
     (r + 5) / MOST_ACROSS
 }
 
+// One of the two sizes is out of range.
+fn sizes_outside(t: u32, r: u32) -> bool
+    ensures { λ b. ⌜ b ≡ (outside 1 16384 t || outside 1 16384 r) ⌝ }
+{
+    refusal::outside(1, MOST_SIZE, t) | refusal::outside(1, MOST_SIZE, r)
+}
+
 // How many bytes a page has.
-fn page_length(t: usize, r: usize) -> usize
+fn length_of(t: usize, r: usize) -> usize
     requires { ⌜ t ≤ 16384 × 1 ≤ r × r ≤ 16384 ⌝ }
     ensures { λ n. ⌜ n ≡ pageLength t r ⌝ }
 {
     let count = panel_count(r);
     (t + 1) * (MOST_ACROSS * count + CELL * r) + (count - 1)
+}
+
+// How many bytes the output of a page must have; 0 where a size is out of range.
+pub fn page_length(t: u32, r: u32) -> usize
+    ensures { λ n. ⌜ n ≡ roomFor t r ⌝ }
+{
+    if sizes_outside(t, r) {
+        return 0;
+    }
+    length_of(t as usize, r as usize)
 }
 
 // Writes the page to the front of the output, and returns its length.
@@ -201,7 +219,7 @@ pub fn write_page(modulus: u32, t: u32, r: u32, table: &[u32], out: &mut [u8]) -
     let Named::Is(named) = field::modulus_named(modulus) else {
         return refusal::MODULUS;
     };
-    if refusal::outside(1, MOST_SIZE, t) | refusal::outside(1, MOST_SIZE, r) {
+    if sizes_outside(t, r) {
         return refusal::SIZE;
     }
     let rows = t as usize;
@@ -209,7 +227,7 @@ pub fn write_page(modulus: u32, t: u32, r: u32, table: &[u32], out: &mut [u8]) -
     if table.len() != rows * columns {
         return refusal::LENGTH;
     }
-    if out.len() != page_length(rows, columns) {
+    if out.len() != length_of(rows, columns) {
         return refusal::PAGE;
     }
     if !field::all_below(named, table) {

@@ -6,7 +6,7 @@ mod arrivals; // the answers taken, and the hosts heard
 mod hosts; // what a host does with its shares
 mod lines; // the numbers of a line
 mod planning; // the job, planned, with as many numbers as it needs
-mod rooms; // what main lends, sizes of blocks and of the kinship page, and parts
+mod rooms; // what main lends, sizes of blocks, and parts
 mod sections; // the sections of the text
 mod sharing; // shares for all hosts
 mod tables; // the table, decoded and printed, and its kinship page

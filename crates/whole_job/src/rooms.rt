@@ -7,10 +7,8 @@ use lister::LISTING_ROOM;
 use refusal::MOST_ELEMENTS;
 use words::least;
 
-// The most hosts, and the largest size of a matrix, as lengths.
+// The most hosts, as a length.
 const MOST_HOSTS: usize = refusal::MOST_HOSTS as usize;
-
-const MOST_SIZE: usize = refusal::MOST_SIZE as usize;
 
 // The bytes before the elements of a message, and the most bytes that a message has.
 const HEADER: usize = 16;
@@ -133,18 +131,6 @@ pub(crate) fn message_size(elements: usize) -> usize
     ensures { λ r. ⌜ r ≤ 16400 ⌝ }
 {
     HEADER + 4 * least(elements, MOST_ELEMENTS)
-}
-
-// How many bytes the kinship page of t rows and r columns has: panels of at most six columns, each with a heading and a line a
-// row, lines of 6 bytes and 11 for each column, and a blank line between two panels.
-pub(crate) fn page_size(t: u32, r: u32) -> usize {
-    if r == 0 {
-        return 0;
-    }
-    let columns = least(r as usize, MOST_SIZE);
-    let panels = (columns + 5) / 6;
-    let rows = least(t as usize, MOST_SIZE);
-    (rows + 1) * (6 * panels + 11 * columns) + (panels - 1)
 }
 
 // ---- parts

@@ -3,7 +3,6 @@ ghost use mathlib.Core.Path.{_≡_};
 ghost use lib.ListN.{length};
 use crate::planning::Whole;
 use crate::rooms::area;
-use crate::rooms::page_size;
 use crate::sections;
 use crate::sections::numbers_of;
 use field_signed::Signed;
@@ -121,7 +120,7 @@ fn say_rows(modulus: u32, columns: u32, table: &[u32], by_sign: bool, lines: &mu
 
 // Prints the kinship page of the table, written in its room, or the number of the refusal.
 fn say_page(job: Job, table: &[u32], page: &mut [u8]) {
-    let n = least(page_size(job.t, job.r), page.len());
+    let n = least(page::page_length(job.t, job.r), page.len());
     let number = page::write_page(job.modulus, job.t, job.r, table, &mut page[..n]);
     if number != 0 {
         return say_refused(number);

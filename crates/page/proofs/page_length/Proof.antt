@@ -1,71 +1,33 @@
 -- `page::page_length` meets its contract.
-use mathlib.Core.Path.{_≡_, ap, _∙_}
-use Prim.Native.Nat.{ℕ, _+_, _-_, _*_, _≤_}
+use mathlib.Core.Path.{_≡_, sym, _∙_}
 use native.Mathlib.Omega.{arith}
-use native.Mathlib.Nat.{mul-le-mul}
 use borrow.Author.Needs.{needs}
-use Rattle.page.specs.Page.{panels, pageLength}
+use Rattle.page.specs.Contracts.{roomFor}
+use Rattle.page.proofs.Outcomes.{Sizes, sizes}
 use Rattle.page.proofs.page_length.Statement.{statement}
 use Rattle.page.proofs.page_length.Tie as tie
 
--- a table has a panel, and at most 2731
-few : (c : tie.After-panel-count) → (1 ≤ c .panel-count .result) × (c .panel-count .result ≤ 2731)
-unfolding panels
-few c = (omega (arith, c .panel-count .ensures), omega (arith, c .panel-count .ensures))
-
--- the bytes of a line of each panel
-wide : (c : tie.After-panel-count) → ℕ
-wide c = 6 * c .panel-count .result + 11 * c .before .args .r
-
-page-fits : (c : tie.After-panel-count) → (c .before .args .t + 1) * wide c ≤ 16385 * 196610
-unfolding wide
-page-fits c =
-    let tall : c .before .args .t + 1 ≤ 16385 = omega arith in
-    let across : 6 * c .panel-count .result + 11 * c .before .args .r ≤ 196610 = omega (arith, few c) in
-    mul-le-mul tall across
-
-panel-count-requires : tie.Need-panel-count-requires
-panel-count-requires c κs = search needs
-
-add-result : tie.Need-add-result
-add-result c = search needs
-
-mul-result : tie.Need-mul-result
-mul-result c = omega (arith, few c)
-
-mul-result-2 : tie.Need-mul-result-2
-mul-result-2 c = search needs
-
-add-result-2 : tie.Need-add-result-2
-add-result-2 c = omega (arith, few c)
-
-mul-result-3 : tie.Need-mul-result-3
-unfolding wide
-mul-result-3 c = omega (arith, page-fits c)
-
-sub-result : tie.Need-sub-result
-sub-result c = omega (arith, few c)
-
-add-result-3 : tie.Need-add-result-3
-unfolding wide
-add-result-3 c = omega (arith, page-fits c, few c)
+sizes-outside-requires : tie.Need-sizes-outside-requires
+sizes-outside-requires c κs = search needs
 
 returns : tie.Need-returns
-unfolding pageLength
-returns c =
-    let a = c .before .args in
-    ap (λ (n : ℕ). (a .t + 1) * (6 * n + 11 * a .r) + (n - 1)) (c .panel-count .ensures)
+unfolding roomFor
+returns c = rw (← c .before .sizes-outside .ensures, c .if1 .taken)
+
+-- both sizes are in range
+within : (c : tie.Else1) → Sizes (c .before .before .args .t) (c .before .before .args .r)
+within c = sizes _ _ (sym (c .before .sizes-outside .ensures) ∙ c .if1 .left)
+
+length-of-requires : tie.Need-length-of-requires
+length-of-requires c κs =
+    let s = within c in
+    let tall = s .tall in
+    let wide = s .wide in
+    (omega arith, omega arith, omega arith)
+
+returns-2 : tie.Need-returns-2
+unfolding roomFor
+returns-2 c = rw (← c .before .before .sizes-outside .ensures, c .before .if1 .left) (c .length-of .ensures)
 
 pub page-length-spec : {M : Type 1} → statement M
-page-length-spec =
-    tie.close
-    (tie.spec
-    panel-count-requires
-    add-result
-    mul-result
-    mul-result-2
-    add-result-2
-    mul-result-3
-    sub-result
-    add-result-3
-    returns)
+page-length-spec = tie.close (tie.spec sizes-outside-requires returns length-of-requires returns-2)

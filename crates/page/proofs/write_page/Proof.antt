@@ -39,26 +39,23 @@ returns c =
 known-prime : (c : tie.After-named) → Known (c .before .before .before .before .before .args .modulus) (prime (c .named .given .0 .0))
 known-prime c = known (c .before .before .before .before .before .args .modulus) (sym (c .before .before .modulus-named .ensures) ∙ c .named .given .1) refl
 
-outside-requires : tie.Need-outside-requires
-outside-requires c κs = search needs
-
-outside-requires-2 : tie.Need-outside-requires-2
-outside-requires-2 c κs = search needs
+sizes-outside-requires : tie.Need-sizes-outside-requires
+sizes-outside-requires c κs = search needs
 
 returns-2 : tie.Need-returns-2
 unfolding first pageTests
 returns-2 c =
-    let named = c .before .before .before .before in
+    let named = c .before .before .before in
     let a = named .before .before .before .before .before .args in
     refused (a .modulus) (a .t) (a .r) (a .table .now) (a .out .now) 2 (λ z. suc-ne-zero 1 z)
-    (rw (known-prime named .is-number, ← c .before .before .outside .ensures, ← c .before .outside2 .ensures, c .if1 .taken))
+    (rw (known-prime named .is-number, ← c .before .sizes-outside .ensures, c .if1 .taken))
 
 -- both sizes are in range
-sized : (c : tie.Else1) → let a = c .before .before .before .before .before .before .before .before .before .args in
+sized : (c : tie.Else1) → let a = c .before .before .before .before .before .before .before .before .args in
     (outside 1 16384 (a .t) || outside 1 16384 (a .r)) ≡ false
-sized c = rw (← c .before .before .outside .ensures, ← c .before .outside2 .ensures) (c .if1 .left)
+sized c = sym (c .before .sizes-outside .ensures) ∙ c .if1 .left
 
-within : (c : tie.Else1) → let a = c .before .before .before .before .before .before .before .before .before .args in Sizes (a .t) (a .r)
+within : (c : tie.Else1) → let a = c .before .before .before .before .before .before .before .before .args in Sizes (a .t) (a .r)
 within c = sizes _ _ (sized c)
 
 mul-if2 : tie.Need-mul-if2
@@ -67,14 +64,14 @@ mul-if2 c = let s = within c in omega (arith, s .area)
 returns-3 : tie.Need-returns-3
 unfolding first pageTests
 returns-3 c =
-    let named = c .before .before .before .before .before in
+    let named = c .before .before .before .before in
     let a = named .before .before .before .before .before .args in
     let other = ne-eqb (length (a .table .now)) (a .t * a .r) (c .if2 .taken) in
     refused (a .modulus) (a .t) (a .r) (a .table .now) (a .out .now) 13 (λ z. suc-ne-zero 12 z)
     (rw (known-prime named .is-number, sized (c .before), other))
 
-page-length-requires : tie.Need-page-length-requires
-page-length-requires c κs =
+length-of-requires : tie.Need-length-of-requires
+length-of-requires c κs =
     let s = within (c .before) in
     let tall = s .tall in
     let wide = s .wide in
@@ -84,9 +81,9 @@ returns-4 : tie.Need-returns-4
 unfolding first pageTests
 returns-4 c =
     let exact = c .before .before in
-    let named = exact .before .before .before .before .before in
+    let named = exact .before .before .before .before in
     let a = named .before .before .before .before .before .args in
-    let other = ne-eqb (length (a .out .now)) (pageLength (a .t) (a .r)) (λ e. c .if3 .taken (e ∙ sym (c .before .page-length .ensures))) in
+    let other = ne-eqb (length (a .out .now)) (pageLength (a .t) (a .r)) (λ e. c .if3 .taken (e ∙ sym (c .before .length-of .ensures))) in
     refused (a .modulus) (a .t) (a .r) (a .table .now) (a .out .now) 28 (λ z. suc-ne-zero 27 z)
     (rw (known-prime named .is-number, sized (exact .before), alike _ _ (exact .if2 .left), other))
 
@@ -94,16 +91,16 @@ all-below-requires : tie.Need-all-below-requires
 all-below-requires c κs = search needs
 
 -- the output has the page's length
-room : (c : tie.Else3) → let a = c .before .before .before .before .before .before .before .before .before .before .before .before .args in
+room : (c : tie.Else3) → let a = c .before .before .before .before .before .before .before .before .before .before .before .args in
     length (a .out .now) ≡ pageLength (a .t) (a .r)
-room c = c .if3 .left ∙ c .before .page-length .ensures
+room c = c .if3 .left ∙ c .before .length-of .ensures
 
 returns-5 : tie.Need-returns-5
 unfolding first pageTests
 returns-5 c =
     let roomy = c .before .before in
     let exact = roomy .before .before in
-    let named = exact .before .before .before .before .before in
+    let named = exact .before .before .before .before in
     let a = named .before .before .before .before .before .args in
     refused (a .modulus) (a .t) (a .r) (a .table .now) (a .out .now) 14 (λ z. suc-ne-zero 13 z)
     (rw (known-prime named .is-number, sized (exact .before), alike _ _ (exact .if2 .left), alike _ _ (room roomy), known-prime named .is, ← c .before .all-below .ensures, c .if4 .taken))
@@ -123,7 +120,7 @@ returns-6 c =
     let below = c .before .before .before .before in
     let roomy = below .before .before in
     let exact = roomy .before .before in
-    let named = exact .before .before .before .before .before in
+    let named = exact .before .before .before .before in
     let a = named .before .before .before .before .before .args in
     let s = within (exact .before) in
     done (a .modulus) (a .t) (a .r) (a .table .now) (a .out .now)
@@ -138,12 +135,11 @@ write-page-spec =
     enum-known-named
     enum-told
     returns
-    outside-requires
-    outside-requires-2
+    sizes-outside-requires
     returns-2
     mul-if2
     returns-3
-    page-length-requires
+    length-of-requires
     returns-4
     all-below-requires
     returns-5

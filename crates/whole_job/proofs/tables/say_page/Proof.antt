@@ -6,8 +6,8 @@ use borrow.Author.Needs.{needs}
 use Rattle.whole_job.proofs.tables.say_page.Statement.{statement}
 use Rattle.whole_job.proofs.tables.say_page.Tie as tie
 
-page-size-requires : tie.Need-page-size-requires
-page-size-requires c κs = tt
+page-length-requires : tie.Need-page-length-requires
+page-length-requires c κs = tt
 
 least-requires : tie.Need-least-requires
 least-requires c κs = tt
@@ -49,7 +49,7 @@ pub say-page-spec : {M : Type 1} → statement M
 say-page-spec =
     tie.close
     (tie.spec
-    page-size-requires
+    page-length-requires
     least-requires
     slice-relend-prefix-write-page
     slice-aggregate-write-page

@@ -1,0 +1,18 @@
+-- `page::sizes_outside` meets its contract.
+use mathlib.Core.Path.{ap₂}
+use mathlib.Core.Bool.{_||_}
+use borrow.Author.Needs.{needs}
+use Rattle.page.proofs.sizes_outside.Statement.{statement}
+use Rattle.page.proofs.sizes_outside.Tie as tie
+
+outside-requires : tie.Need-outside-requires
+outside-requires c κs = search needs
+
+outside-requires-2 : tie.Need-outside-requires-2
+outside-requires-2 c κs = search needs
+
+returns : tie.Need-returns
+returns c = ap₂ _||_ (c .before .outside .ensures) (c .outside2 .ensures)
+
+pub sizes-outside-spec : {M : Type 1} → statement M
+sizes-outside-spec = tie.close (tie.spec outside-requires outside-requires-2 returns)
