@@ -4,6 +4,8 @@
 --   fits buffer at bytes  == the bytes have room in the buffer from offset `at` on
 --   put buffer at bytes   == the buffer with the bytes from offset `at` on where they fit, and as it was where they do not
 --   after at bytes buffer == the offset after the bytes where they fit, and `at` where they do not
+--   Ends before text after start == where the text has room in the buffer, `after` is `before` with the text at its end, from offset
+--                            `start` on; in any case `start` does not leave the buffer
 --   Writes before at text after end == where the text has room from offset `at` on, `after` is `before` with the text there,
 --                            and `end` is the offset behind it; in any case the length is kept, and the offset does not leave
 --                            the buffer
@@ -27,6 +29,11 @@ put buffer at bytes = cond (fits buffer at bytes) (take at buffer ++ bytes ++ dr
 
 unfoldable pub after : ℕ → List ℕ → List ℕ → ℕ
 after at bytes buffer = cond (fits buffer at bytes) (at + length bytes) at
+
+pub record Ends (before text after : List ℕ) (start : ℕ) : Type 0 where
+  pub within : start ≤ length before
+  pub is : length text ≤ length before → after ≡ take start before ++ text
+  pub fills : length text ≤ length before → start + length text ≡ length before
 
 pub record Writes (before : List ℕ) (at : ℕ) (text after : List ℕ) (end : ℕ) : Type 0 where
   pub kept : length after ≡ length before

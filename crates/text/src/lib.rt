@@ -1,11 +1,9 @@
 // Text in a buffer: bytes, and numbers in decimal.
 ghost use mathlib.Core.Path.{_≡_};
-ghost use mathlib.Core.List.{_++_};
-ghost use Prim.Native.Nat.{_+_, _≤_};
-ghost use lib.ListN.{length, take};
+ghost use lib.ListN.{length};
 ghost use Rattle.algebra.specs.Lists.{tab};
 ghost use Rattle.text.specs.Decimal.{decimal};
-ghost use Rattle.text.specs.Contracts.{lastDigits, put, after};
+ghost use Rattle.text.specs.Contracts.{lastDigits, put, after, Ends};
 
 // The byte of the digit 0.
 const ZERO: u8 = 48;
@@ -45,11 +43,9 @@ pub fn fill(out: &mut [u8], byte: u8)
 }
 
 // Writes the decimal digits of n to the end of a buffer that has room for them, and returns the offset of the first. The loop goes
-// over the places, which are never all passed: where the compiler knows how many there are, it needs no loop.
+// over the places: where the compiler knows how many there are, it needs no loop.
 pub fn put_digits(out: &mut [u8], n: u32) -> usize
-    requires { ⌜ length (decimal n) ≤ length (now out) ⌝ }
-    ensures start { λ r. ⌜ r + length (decimal n) ≡ length (now (out .entry)) ⌝ }
-    ensures digits { λ r. ⌜ now (out .exit) ≡ take r (now (out .entry)) ++ decimal n ⌝ }
+    ensures { λ r. ⌜ Ends (now (out .entry)) (decimal n) (now (out .exit)) r ⌝ }
 {
     let mut start = out.len();
     let mut rest = n;

@@ -1,7 +1,7 @@
 -- `page::fill_short` meets its contract.
 use mathlib.Core.Path.{_≡_, ap, _∙_}
 use mathlib.Core.List.{List, _++_}
-use Prim.Native.Nat.{ℕ, _+_, _-_}
+use Prim.Native.Nat.{ℕ, _+_, _-_, _≤_}
 use native.Mathlib.Omega.{arith}
 use lib.ListN.{length, take}
 use borrow.Author.Needs.{needs}
@@ -36,8 +36,11 @@ returns : tie.Need-returns
 returns c =
     let digits = c .before .before .put-digits .ensures in
     let blank = c .before .before .before .before .before .before .fill in
-    let a = c .before .before .before .before .before .before .before .before .before .args in
-    digits .1 ∙ filled (length (a .out .now)) (a .n) _ _ (blank .ensures) (digits .0)
+    let start = c .before .before .before .before .before .before .before .before .before in
+    let a = start .args in
+    let long = ap length (blank .ensures) ∙ length-tab {A = ℕ} (λ i. 32) (length (a .out .now)) in
+    let room : length (decimal (a .n)) ≤ length (blank .last .0) = omega (arith, start .pre, long) in
+    digits .is room ∙ filled (length (a .out .now)) (a .n) _ _ (blank .ensures) (digits .fills room)
 
 pub fill-short-spec : {M : Type 1} → statement M
 fill-short-spec = tie.close (tie.spec fill-requires put-digits-requires same-length returns)

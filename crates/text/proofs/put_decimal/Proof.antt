@@ -16,7 +16,7 @@ slice-aggregate-put-digits : tie.Need-slice-aggregate-put-digits
 slice-aggregate-put-digits c = search needs
 
 put-digits-requires : tie.Need-put-digits-requires
-put-digits-requires c κs = decimal-length _
+put-digits-requires c κs = search needs
 
 sub-put-bytes : tie.Need-sub-put-bytes
 sub-put-bytes c = search needs
@@ -48,7 +48,7 @@ returns c =
     let own = c .before .before .before .before .before .before .before in
     let digits = own .put-digits .ensures in
     let a = own .before .before .before .args in
-    let e = handed (a .n) _ _ (digits .0) (digits .1) in
+    let e = handed (a .n) _ _ (digits .fills (decimal-length (a .n))) (digits .is (decimal-length (a .n))) in
     (told .0 ∙ ap (λ (bytes : List ℕ). after (a .at) bytes (a .out .now)) e, told .1 ∙ ap (λ (bytes : List ℕ). put (a .out .now) (a .at) bytes) e)
 
 pub put-decimal-spec : {M : Type 1} → statement M
