@@ -3,14 +3,14 @@
 --   cell-at         a cell of the text reads back to its number
 --   label-at, number-at   what stands in a line: its first columns, and its numbers
 --   page-text       the promises about the text of a page
-use mathlib.Core.Path.{_≡_, refl, sym, ap, _∙_, subst}
+use mathlib.Core.Path.{_≡_, refl, sym, ap, _∙_}
 use mathlib.Core.List.{List, [], _∷_, _++_, append-assoc}
 use Prim.Native.Nat.{ℕ, zero, suc, _+_, _-_, _*_, _/_, _%_, _^_, _<_, _≤_, min}
 use native.Mathlib.Omega.{arith}
 use lib.ListN.{length, getD, length-append}
 use lib.Seq.{ext-getD}
 use borrow.Author.Tests.{ne-eqb}
-use Rattle.algebra.specs.Lists.{tab, stack, grid, entry, AllBelow}
+use Rattle.algebra.specs.Lists.{tab, stack, entry, AllBelow}
 use Rattle.algebra.proofs.Lists.{length-tab, getD-tab, below-anywhere}
 use Rattle.algebra.proofs.Grids.{grid-cong}
 use Rattle.algebra.proofs.Stacks.{grid-tab}
@@ -19,8 +19,8 @@ use Rattle.text.specs.Decimal.{digit, decimal}
 use Rattle.text.specs.Numerals.{value}
 use Rattle.text.proofs.Decimals.{decimal-some, decimal-short, numerals}
 use Rattle.page.specs.Page.{spaces, cell, line, panels, across, heading, row, panel, gap, page}
-use Rattle.page.specs.Reading.{pastSpaces, cellAt, lineAt, readBack, PageText, PageTexts}
-use Rattle.page.proofs.Lengths.{length-spaces, length-cell, number-fits, length-label, length-numbers, length-heading, length-row, length-rows, length-panel, length-page}
+use Rattle.page.specs.Reading.{pastSpaces, cellAt, lineAt, readBack, PageTexts}
+use Rattle.page.proofs.Lengths.{length-spaces, length-cell, number-fits, length-label, length-numbers, length-heading, length-rows, length-panel, length-page}
 use Rattle.page.proofs.Places.{At, at-front, at-back, at-then, at-place, at-stack, at-take}
 
 -- ---- a cell
