@@ -40,7 +40,7 @@ length-label i h = length-cell 5 (i + 1) (decimal-short (i + 1) (omega arith))
 pub length-numbers : (f : ℕ → ℕ) (n : ℕ) → length (stack (λ c. cell 11 (f c)) n) ≡ n * 11
 length-numbers f n = length-stack (λ c. cell 11 (f c)) n 11 (λ c h. length-cell 11 (f c) (number-fits (f c)))
 
-pub length-line : (label : List ℕ) (f : ℕ → ℕ) (n : ℕ) → length label ≡ 5 → length (line label f n) ≡ 6 + 11 * n
+length-line : (label : List ℕ) (f : ℕ → ℕ) (n : ℕ) → length label ≡ 5 → length (line label f n) ≡ 6 + 11 * n
 unfolding line
 length-line label f n five =
     let numbers = stack (λ c. cell 11 (f c)) n in
@@ -50,7 +50,7 @@ pub length-heading : (r p : ℕ) → length (heading r p) ≡ 6 + 11 * across r 
 unfolding heading
 length-heading r p = length-line (spaces 5) _ (across r p) (length-spaces 5)
 
-pub length-row : (r : ℕ) (table : List ℕ) (p i : ℕ) → i < 16384 → length (row r table p i) ≡ 6 + 11 * across r p
+length-row : (r : ℕ) (table : List ℕ) (p i : ℕ) → i < 16384 → length (row r table p i) ≡ 6 + 11 * across r p
 unfolding row
 length-row r table p i h = length-line (cell 5 (i + 1)) _ (across r p) (length-label i h)
 

@@ -93,7 +93,7 @@ pub decimal-one : (n : ℕ) → n < 10 → decimal n ≡ digit n ∷ []
 unfolding decimal
 decimal-one n h = spell-last 9 n h
 
-pub decimal-tens : (n : ℕ) → 10 ≤ n → n < 10 ^ 10 → decimal n ≡ decimal (n / 10) ++ (digit (n % 10) ∷ [])
+decimal-tens : (n : ℕ) → 10 ≤ n → n < 10 ^ 10 → decimal n ≡ decimal (n / 10) ++ (digit (n % 10) ∷ [])
 unfolding decimal
 decimal-tens n b h = spell-more 9 n b ∙ ap (λ (xs : List ℕ). xs ++ (digit (n % 10) ∷ [])) (spell-room 8 (n / 10) (tenth 9 n h))
 
