@@ -15,6 +15,7 @@ use field::Named;
 use refusal::MOST_SIZE;
 use words::least;
 
+// The byte of a space.
 const SPACE: u8 = 32;
 
 // How many columns a row number has, and an element or a column number.
