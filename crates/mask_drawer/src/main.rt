@@ -82,35 +82,35 @@ fn put_elements(out: &mut [u8], elements: &[u32]) -> usize {
 }
 
 // Draws elements from words and prints how many words were used, and the elements; or the number of the refusal.
-fn draw(modulus: u32, words: &[u32], elements: &mut [u32], page: &mut [u8]) {
+fn draw(modulus: u32, words: &[u32], elements: &mut [u32], lines: &mut [u8]) {
     match masks::draw_masks(modulus, words, elements) {
         Drawn::Refused(number) => say_refused(number),
         Drawn::Used(used) => {
             say_number(b"# USED ", used as u64);
             say(b"\n");
-            let n = put_elements(page, elements);
-            say_front(page, n);
+            let n = put_elements(lines, elements);
+            say_front(lines, n);
         }
     }
 }
 
 // Draws so many elements from words, where there is room for them.
-fn draw_wanted(modulus: u32, wanted: u32, words: &[u32], elements: &mut [u32], page: &mut [u8]) {
+fn draw_wanted(modulus: u32, wanted: u32, words: &[u32], elements: &mut [u32], lines: &mut [u8]) {
     let n = wanted as usize;
     if elements.len() < n {
         return say(b"TOO MANY ELEMENTS: at most 65536\n");
     }
-    draw(modulus, words, &mut elements[..n], page);
+    draw(modulus, words, &mut elements[..n], lines);
 }
 
 // Draws as many elements as the second number says, by the modulus of the first, from the words after them.
-fn run(numbers: &[u32], elements: &mut [u32], page: &mut [u8]) {
+fn run(numbers: &[u32], elements: &mut [u32], lines: &mut [u8]) {
     if 2 <= numbers.len() {
-        draw_wanted(numbers[0], numbers[1], &numbers[2..], elements, page);
+        draw_wanted(numbers[0], numbers[1], &numbers[2..], elements, lines);
     }
 }
 
-// Reads the text, makes the rooms, and draws. The room of the text is the page for the elements then.
+// Reads the text, makes the rooms, and draws. The room of the text is that of the lines to print then.
 fn main() {
     let mut text = text_room();
     let n = io::read_full(STDIN_FILENO, &mut text);

@@ -1,8 +1,8 @@
 -- What a call of the page returns and leaves.
 --
---   refused    by a number that is not 0: the output stays
---   done       by 0: the output holds the page
---   sizes      what the test 2 leaves: sizes in range, and so a table of at most 2^28 elements
+--   refused        by a number that is not 0: the output stays
+--   done           by 0: the output holds the page
+--   Sizes, sizes   what the test 2 leaves: sizes in range, and so a table of at most 2^28 elements
 use mathlib.Core.Path.{_≡_, sym, _∙_}
 use mathlib.Core.Bool.{false, _||_}
 use mathlib.Core.List.{List}

@@ -12,9 +12,10 @@
 --   gap p              == what stands before panel p: a blank line, but none before the first
 --   page t r table     == the panels, one blank line between
 --   pageLength t r     == how many bytes a page has
+--   roomFor t r        == how many bytes the output of a page must have; 0 where a size is out of range
 --   pageTests n t r table room == the refusals of a page at modulus number n, in the sheet's order; room is the output's length
 --   pageAfter n t r table out  == what the output then holds
-use mathlib.Core.Bool.{not, _||_}
+use mathlib.Core.Bool.{not, cond, _||_}
 use mathlib.Core.List.{List, [], _∷_, _++_}
 use Prim.Native.Nat.{ℕ, zero, suc, _+_, _-_, _*_, _/_, min}
 use lib.ListN.{length}
@@ -57,6 +58,9 @@ page t r table = stack (λ p. gap p ++ panel t r table p) (panels r)
 
 unfoldable pub pageLength : ℕ → ℕ → ℕ
 pageLength t r = (t + 1) * (6 * panels r + 11 * r) + (panels r - 1)
+
+unfoldable pub roomFor : ℕ → ℕ → ℕ
+roomFor t r = cond (outside 1 16384 t || outside 1 16384 r) 0 (pageLength t r)
 
 unfoldable pub pageTests : ℕ → ℕ → ℕ → List ℕ → ℕ → List Test
 pageTests n t r table room =

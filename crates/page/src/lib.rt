@@ -9,8 +9,8 @@ ghost use Rattle.algebra.specs.Lists.{tab};
 ghost use Rattle.refusal.specs.Chain.{first, outside};
 ghost use Rattle.text.specs.Decimal.{decimal};
 ghost use Rattle.text.specs.Contracts.{Writes};
-ghost use Rattle.page.specs.Page.{cell, panels, across, heading, panel, gap, page, pageLength, pageTests, pageAfter};
-ghost use Rattle.page.specs.Contracts.{roomFor, lineOf};
+ghost use Rattle.page.specs.Page.{cell, panels, across, heading, panel, gap, page, pageLength, roomFor, pageTests, pageAfter};
+ghost use Rattle.page.specs.Contracts.{lineOf};
 use field::Named;
 use refusal::MOST_SIZE;
 use words::least;
@@ -170,7 +170,7 @@ fn panel_count(r: usize) -> usize
 }
 
 // One of the two sizes is out of range.
-fn sizes_outside(t: u32, r: u32) -> bool
+fn size_test(t: u32, r: u32) -> bool
     ensures { λ b. ⌜ b ≡ (outside 1 16384 t || outside 1 16384 r) ⌝ }
 {
     refusal::outside(1, MOST_SIZE, t) | refusal::outside(1, MOST_SIZE, r)
@@ -189,7 +189,7 @@ fn length_of(t: usize, r: usize) -> usize
 pub fn page_length(t: u32, r: u32) -> usize
     ensures { λ n. ⌜ n ≡ roomFor t r ⌝ }
 {
-    if sizes_outside(t, r) {
+    if size_test(t, r) {
         return 0;
     }
     length_of(t as usize, r as usize)
@@ -220,7 +220,7 @@ pub fn write_page(modulus: u32, t: u32, r: u32, table: &[u32], out: &mut [u8]) -
     let Named::Is(named) = field::modulus_named(modulus) else {
         return refusal::MODULUS;
     };
-    if sizes_outside(t, r) {
+    if size_test(t, r) {
         return refusal::SIZE;
     }
     let rows = t as usize;

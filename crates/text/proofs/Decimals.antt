@@ -10,8 +10,8 @@
 --   last-digit                      a number less ten times its tenth is its last digit
 --   Digits                          the last digits of n at the end of a buffer, from index `start` on, and the rest of n
 --   digits-start, digits-more       none of them, and one more
---   digits-room                     there is room for one more
 --   digits-last, digits-first       the first digit of n makes them whole, and where it stands
+--   digits-cut, digits-over         no place is left for it
 --   last-digits-more, length-last-digits   one more of the last digits, and how many there are
 --   decimal-last                    the last digits stand behind those of the rest
 use mathlib.Core.Path.{_≡_, refl, sym, ap, ap₂, _∙_, subst}
@@ -26,7 +26,7 @@ use borrow.Author.Tests.{lt-ltb, le-ltb}
 use Rattle.algebra.proofs.Orders.{le-or-lt}
 use Rattle.text.specs.Decimal.{digit, spell, decimal}
 use Rattle.text.specs.Numerals.{value, Numerals}
-use Rattle.text.specs.Contracts.{lastDigits}
+use Rattle.text.specs.Contracts.{lastDigits, putLast}
 
 pub spell-last : (k n : ℕ) → n < 10 → spell (suc k) n ≡ digit n ∷ []
 unfolding spell
@@ -175,16 +175,14 @@ stored bytes i v h =
     ap (drop i) (set-split bytes i v h) ∙ drop-at (take i bytes) (v ∷ drop (suc i) bytes) i (length-take-le i bytes (omega arith))
 
 pub record Digits (n : ℕ) (was bytes : List ℕ) (start rest : ℕ) : Type 0 where
-  pub room : length (decimal n) ≤ length was
   pub same : length bytes ≡ length was
   pub within : start ≤ length was
   pub small : rest < 2 ^ 32
   pub kept : take start bytes ≡ take start was
   pub is : decimal rest ++ drop start bytes ≡ decimal n
 
-pub digits-start : (n : ℕ) (was : List ℕ) → n < 2 ^ 32 → length (decimal n) ≤ length was → Digits n was was (length was) n
-digits-start n was h room = record {
-  room = room;
+pub digits-start : (n : ℕ) (was : List ℕ) → n < 2 ^ 32 → Digits n was was (length was) n
+digits-start n was h = record {
   same = refl;
   within = le-refl (length was);
   small = h;
@@ -193,9 +191,9 @@ digits-start n was h room = record {
 }
 
 module _ {n : ℕ} {was bytes : List ℕ} {start rest : ℕ} (d : Digits n was bytes start rest) where
-  pub digits-room : 0 < start
-  digits-room =
-      omega (arith, decimal-some rest, ap length (d .is), length-append (decimal rest) (drop start bytes), length-drop start bytes, d .room, d .same, d .within)
+  -- how long the rest is
+  long : length (decimal rest) + (length was - start) ≡ length (decimal n)
+  long = omega (arith, ap length (d .is), length-append (decimal rest) (drop start bytes), length-drop start bytes, d .same)
 
   -- the next digit, and those behind it
   module _ (i : ℕ) (next : suc i ≡ start) where
@@ -215,7 +213,6 @@ module _ {n : ℕ} {was bytes : List ℕ} {start rest : ℕ} (d : Digits n was b
     pub digits-more : (v : ℕ) → v ≡ digit (rest % 10) → 10 ≤ rest → Digits n was (set bytes i v) i (rest / 10)
     digits-more v next-is b =
         record {
-          room = d .room;
           same = length-set bytes i v ∙ d .same;
           within = omega (arith, d .within);
           small = omega (arith, d .small);
@@ -227,17 +224,34 @@ module _ {n : ℕ} {was bytes : List ℕ} {start rest : ℕ} (d : Digits n was b
               ∙ d .is;
         }
 
-    pub digits-last : (v : ℕ) → v ≡ digit (rest % 10) → rest < 10 → set bytes i v ≡ take i was ++ decimal n
+    pub digits-first : rest < 10 → i ≡ length was - length (decimal n)
+    digits-first b = omega (arith, long, ap length (decimal-one rest b), d .within)
+
+    pub digits-last : (v : ℕ) → v ≡ digit (rest % 10) → rest < 10 → set bytes i v ≡ putLast was (decimal n)
+    unfolding putLast
     digits-last v next-is b =
         let one : rest % 10 ≡ rest = omega arith in
+        let none : 0 ≡ length (decimal n) - length was = omega (arith, digits-first b, long, ap length (decimal-one rest b), d .within) in
         sym (take-append-drop i (set bytes i v))
         ∙ ap₂ (λ (xs ys : List ℕ). xs ++ ys) (before v) (behind v)
         ∙ ap (λ (xs : List ℕ). take i was ++ (xs ++ drop start bytes)) (ap (λ (x : ℕ). x ∷ []) (next-is ∙ ap digit one) ∙ sym (decimal-one rest b))
         ∙ ap (λ (xs : List ℕ). take i was ++ xs) (d .is)
+        ∙ ap₂ (λ (k m : ℕ). take k was ++ drop m (decimal n)) (digits-first b) none
 
-    pub digits-first : rest < 10 → i + length (decimal n) ≡ length was
-    digits-first b =
-        omega (arith, ap length (d .is), ap length (decimal-one rest b), length-append (decimal rest) (drop start bytes), length-drop start bytes, d .same, d .within)
+  -- no place is left
+  module _ (none : start ≡ 0) where
+    pub digits-over : start ≡ length was - length (decimal n)
+    digits-over = omega (arith, long)
+
+    pub digits-cut : bytes ≡ putLast was (decimal n)
+    unfolding putLast
+    digits-cut =
+        let lost : length (decimal rest) ≡ length (decimal n) - length was = omega (arith, long) in
+        let all : drop start bytes ≡ bytes = ap (λ (k : ℕ). drop k bytes) none in
+        sym all
+        ∙ sym (drop-at (decimal rest) (drop start bytes) (length (decimal n) - length was) lost)
+        ∙ ap (drop (length (decimal n) - length was)) (d .is)
+        ∙ ap (λ (k : ℕ). take k was ++ drop (length (decimal n) - length was) (decimal n)) (sym none ∙ digits-over)
 
 -- the next of the last digits, in its place
 pub last-digits-more : (i rest v : ℕ) (bytes : List ℕ) → v ≡ digit (rest % 10) → i < length bytes

@@ -4,15 +4,14 @@
 --   fits buffer at bytes  == the bytes have room in the buffer from offset `at` on
 --   put buffer at bytes   == the buffer with the bytes from offset `at` on where they fit, and as it was where they do not
 --   after at bytes buffer == the offset after the bytes where they fit, and `at` where they do not
---   Ends before text after start == where the text has room in the buffer, `after` is `before` with the text at its end, from offset
---                            `start` on; in any case `start` does not leave the buffer
+--   putLast buffer text   == the buffer with the text at its end; of a text that is longer, its last bytes
 --   Writes before at text after end == where the text has room from offset `at` on, `after` is `before` with the text there,
 --                            and `end` is the offset behind it; in any case the length is kept, and the offset does not leave
 --                            the buffer
 use mathlib.Core.Path.{_≡_}
 use mathlib.Core.Bool.{Bool, cond}
 use mathlib.Core.List.{List, [], _∷_, _++_}
-use Prim.Native.Nat.{ℕ, zero, suc, _+_, _/_, _%_, _≤_}
+use Prim.Native.Nat.{ℕ, zero, suc, _+_, _-_, _/_, _%_, _≤_}
 use lib.Dec.{leb}
 use lib.ListN.{length, take, drop}
 use Rattle.text.specs.Decimal.{digit}
@@ -30,10 +29,8 @@ put buffer at bytes = cond (fits buffer at bytes) (take at buffer ++ bytes ++ dr
 unfoldable pub after : ℕ → List ℕ → List ℕ → ℕ
 after at bytes buffer = cond (fits buffer at bytes) (at + length bytes) at
 
-pub record Ends (before text after : List ℕ) (start : ℕ) : Type 0 where
-  pub within : start ≤ length before
-  pub is : length text ≤ length before → after ≡ take start before ++ text
-  pub fills : length text ≤ length before → start + length text ≡ length before
+unfoldable pub putLast : List ℕ → List ℕ → List ℕ
+putLast buffer text = take (length buffer - length text) buffer ++ drop (length text - length buffer) text
 
 pub record Writes (before : List ℕ) (at : ℕ) (text after : List ℕ) (end : ℕ) : Type 0 where
   pub kept : length after ≡ length before

@@ -1,9 +1,10 @@
 // Text in a buffer: bytes, and numbers in decimal.
 ghost use mathlib.Core.Path.{_≡_};
+ghost use Prim.Native.Nat.{_-_};
 ghost use lib.ListN.{length};
 ghost use Rattle.algebra.specs.Lists.{tab};
 ghost use Rattle.text.specs.Decimal.{decimal};
-ghost use Rattle.text.specs.Contracts.{lastDigits, put, after, Ends};
+ghost use Rattle.text.specs.Contracts.{lastDigits, put, after, putLast};
 
 // The byte of the digit 0.
 const ZERO: u8 = 48;
@@ -42,10 +43,11 @@ pub fn fill(out: &mut [u8], byte: u8)
     }
 }
 
-// Writes the decimal digits of n to the end of a buffer that has room for them, and returns the offset of the first. The loop goes
-// over the places: where the compiler knows how many there are, it needs no loop.
+// Writes the decimal digits of n to the end of a buffer, the last of them where they have no room, and returns the offset of the
+// first. The loop goes over the places: where the compiler knows how many there are, it needs no loop.
 pub fn put_digits(out: &mut [u8], n: u32) -> usize
-    ensures { λ r. ⌜ Ends (now (out .entry)) (decimal n) (now (out .exit)) r ⌝ }
+    ensures start { λ r. ⌜ r ≡ length (now (out .entry)) - length (decimal n) ⌝ }
+    ensures digits { λ _. ⌜ now (out .exit) ≡ putLast (now (out .entry)) (decimal n) ⌝ }
 {
     let mut start = out.len();
     let mut rest = n;

@@ -38,8 +38,8 @@ returns c =
 known-prime : (c : tie.After-named) → Known (c .before .before .before .before .before .args .modulus) (prime (c .named .given .0 .0))
 known-prime c = known (c .before .before .before .before .before .args .modulus) (sym (c .before .before .modulus-named .ensures) ∙ c .named .given .1) refl
 
-sizes-outside-requires : tie.Need-sizes-outside-requires
-sizes-outside-requires c κs = search needs
+size-test-requires : tie.Need-size-test-requires
+size-test-requires c κs = search needs
 
 returns-2 : tie.Need-returns-2
 unfolding first pageTests
@@ -47,12 +47,12 @@ returns-2 c =
     let named = c .before .before .before in
     let a = named .before .before .before .before .before .args in
     refused (a .modulus) (a .t) (a .r) (a .table .now) (a .out .now) 2 (λ z. suc-ne-zero 1 z)
-    (rw (known-prime named .is-number, ← c .before .sizes-outside .ensures, c .if1 .taken))
+    (rw (known-prime named .is-number, ← c .before .size-test .ensures, c .if1 .taken))
 
 -- both sizes are in range
 sized : (c : tie.Else1) → let a = c .before .before .before .before .before .before .before .before .args in
     (outside 1 16384 (a .t) || outside 1 16384 (a .r)) ≡ false
-sized c = sym (c .before .sizes-outside .ensures) ∙ c .if1 .left
+sized c = sym (c .before .size-test .ensures) ∙ c .if1 .left
 
 within : (c : tie.Else1) → let a = c .before .before .before .before .before .before .before .before .args in Sizes (a .t) (a .r)
 within c = sizes _ _ (sized c)
@@ -134,7 +134,7 @@ write-page-spec =
     enum-known-named
     enum-told
     returns
-    sizes-outside-requires
+    size-test-requires
     returns-2
     mul-if2
     returns-3

@@ -1,13 +1,13 @@
 -- `text::put_decimal` meets its contract.
 use mathlib.Core.List.{List, _++_}
-use mathlib.Core.Path.{_≡_, ap, _∙_}
-use Prim.Native.Nat.{ℕ, _+_, _-_}
+use mathlib.Core.Path.{_≡_, sym, ap, ap₂, _∙_}
+use Prim.Native.Nat.{ℕ, _-_}
 use native.Mathlib.Omega.{arith}
 use lib.ListN.{length, take, drop, replicate}
 use lib.Seq.{take-all, drop-at, length-take-le}
 use borrow.Author.Needs.{needs}
 use Rattle.text.specs.Decimal.{decimal}
-use Rattle.text.specs.Contracts.{put, after}
+use Rattle.text.specs.Contracts.{put, after, putLast}
 use Rattle.text.proofs.Decimals.{decimal-length}
 use Rattle.text.proofs.put_decimal.Statement.{statement}
 use Rattle.text.proofs.put_decimal.Tie as tie
@@ -34,11 +34,14 @@ same-length : tie.Need-same-length
 same-length c = search needs
 
 -- the digits that are handed on
-handed : (n start : ℕ) (digits : List ℕ) → start + length (decimal n) ≡ 10 → digits ≡ take start (replicate 10 48) ++ decimal n
+handed : (n start : ℕ) (digits : List ℕ) → start ≡ 10 - length (decimal n) → digits ≡ putLast (replicate 10 48) (decimal n)
     → take (10 - start) (drop start digits) ≡ decimal n
-handed n start digits room is =
+unfolding putLast
+handed n start digits first is =
     let zeros : List ℕ = replicate 10 48 in
-    ap (λ (xs : List ℕ). take (10 - start) (drop start xs)) is
+    let few = decimal-length n in
+    let none : length (decimal n) - 10 ≡ 0 = omega arith in
+    ap (λ (xs : List ℕ). take (10 - start) (drop start xs)) (is ∙ ap₂ (λ (k m : ℕ). take k zeros ++ drop m (decimal n)) (sym first) none)
     ∙ ap (take (10 - start)) (drop-at (take start zeros) (decimal n) start (length-take-le start zeros (omega arith)))
     ∙ take-all (10 - start) (decimal n) (omega arith)
 
@@ -48,7 +51,7 @@ returns c =
     let own = c .before .before .before .before .before .before .before in
     let digits = own .put-digits .ensures in
     let a = own .before .before .before .args in
-    let e = handed (a .n) _ _ (digits .fills (decimal-length (a .n))) (digits .is (decimal-length (a .n))) in
+    let e = handed (a .n) _ _ (digits .0) (digits .1) in
     (told .0 ∙ ap (λ (bytes : List ℕ). after (a .at) bytes (a .out .now)) e, told .1 ∙ ap (λ (bytes : List ℕ). put (a .out .now) (a .at) bytes) e)
 
 pub put-decimal-spec : {M : Type 1} → statement M

@@ -1,26 +1,20 @@
 -- `text::put_digits` meets its contract.
-use mathlib.Core.Path.{_≡_, refl, _∙_}
-use Prim.Native.Nat.{ℕ, suc, _-_, _^_, _<_, _≤_}
+use mathlib.Core.Path.{_≡_, _∙_}
+use Prim.Native.Nat.{ℕ, suc, _-_, _<_}
 use native.Mathlib.Omega.{arith}
-use lib.ListN.{length, length-set}
-use Rattle.text.specs.Decimal.{decimal}
-use Rattle.text.proofs.Decimals.{last-digit, Digits, digits-start, digits-more, digits-room, digits-last, digits-first}
+use lib.ListN.{length-set}
+use Rattle.text.proofs.Decimals.{last-digit, Digits, digits-start, digits-more, digits-last, digits-first, digits-over, digits-cut}
 use Rattle.text.proofs.put_digits.Statement.{statement}
 use Rattle.text.proofs.put_digits.Tie as tie
 
 abbrev Inv-loop : tie.InvT-loop
-Inv-loop out₀ n start₀ rest₀ out start rest = record {
-  same : length out ≡ length out₀;
-  within : start ≤ length out₀;
-  small : rest < 2 ^ 32;
-  is : length (decimal n) ≤ length out₀ → Digits n out₀ out start rest;
-}
+Inv-loop out₀ n start₀ rest₀ out start rest = Digits n out₀ out start rest
 
 abbrev μ-loop : tie.MeasureT-loop
 μ-loop out₀ n start₀ rest₀ out start rest = start
 
 loop-holds : tie.Need-loop-holds Inv-loop μ-loop
-loop-holds c = record { same = refl; within = omega arith; small = omega arith; is = λ room. digits-start (c .args .n) (c .args .out .now) (omega arith) room }
+loop-holds c = digits-start (c .args .n) (c .args .out .now) (omega arith)
 
 sub-start : tie.Need-sub-start Inv-loop μ-loop
 sub-start c = omega arith
@@ -53,11 +47,7 @@ returns : tie.Need-returns Inv-loop μ-loop
 returns c =
     let l = c .before .before .loop in
     let next = place (l .start) (omega arith) in
-    record {
-      within = omega arith;
-      is = λ room. digits-last (l .inv .is room) (l .start - 1) next _ (last-digit (l .rest)) (omega arith);
-      fills = λ room. digits-first (l .inv .is room) (l .start - 1) next (omega arith);
-    }
+    (digits-first (l .inv) (l .start - 1) next (omega arith), digits-last (l .inv) (l .start - 1) next _ (last-digit (l .rest)) (omega arith))
 
 loop-less : tie.Need-loop-less Inv-loop μ-loop
 loop-less c = omega arith
@@ -65,26 +55,16 @@ loop-less c = omega arith
 loop-again : tie.Need-loop-again Inv-loop μ-loop
 loop-again c =
     let l = c .before .before .loop in
-    let next = place (l .start) (omega arith) in
-    record {
-      same = length-set (l .out) (l .start - 1) _ ∙ l .inv .same;
-      within = omega arith;
-      small = omega arith;
-      is = λ room. digits-more (l .inv .is room) (l .start - 1) next _ (last-digit (l .rest)) (omega arith);
-    }
+    digits-more (l .inv) (l .start - 1) (place (l .start) (omega arith)) _ (last-digit (l .rest)) (omega arith)
 
 same-length-2 : tie.Need-same-length-2 Inv-loop μ-loop
 same-length-2 c = c .before .loop .inv .same
 
--- all places were passed: there was no room
 returns-2 : tie.Need-returns-2 Inv-loop μ-loop
 returns-2 c =
     let l = c .before .loop in
-    record {
-      within = omega arith;
-      is = λ room. absurd (omega (arith, digits-room (l .inv .is room)));
-      fills = λ room. absurd (omega (arith, digits-room (l .inv .is room)));
-    }
+    let none : l .start ≡ 0 = omega arith in
+    (digits-over (l .inv) none, digits-cut (l .inv) none)
 
 pub put-digits-spec : {M : Type 1} → statement M
 put-digits-spec =

@@ -1,9 +1,9 @@
--- `page::sizes_outside` meets its contract.
+-- `page::size_test` meets its contract.
 use mathlib.Core.Path.{ap₂}
 use mathlib.Core.Bool.{_||_}
 use borrow.Author.Needs.{needs}
-use Rattle.page.proofs.sizes_outside.Statement.{statement}
-use Rattle.page.proofs.sizes_outside.Tie as tie
+use Rattle.page.proofs.size_test.Statement.{statement}
+use Rattle.page.proofs.size_test.Tie as tie
 
 outside-requires : tie.Need-outside-requires
 outside-requires c κs = search needs
@@ -14,5 +14,5 @@ outside-requires-2 c κs = search needs
 returns : tie.Need-returns
 returns c = ap₂ _||_ (c .before .outside .ensures) (c .outside2 .ensures)
 
-pub sizes-outside-spec : {M : Type 1} → statement M
-sizes-outside-spec = tie.close (tie.spec outside-requires outside-requires-2 returns)
+pub size-test-spec : {M : Type 1} → statement M
+size-test-spec = tie.close (tie.spec outside-requires outside-requires-2 returns)
