@@ -30,16 +30,16 @@ unfolding pastSpaces spaces tab
 past-spaces zero xs = refl
 past-spaces (suc k) xs = ap pastSpaces (append-assoc (tab (λ i. 32) k) (32 ∷ []) xs) ∙ past-spaces k (32 ∷ xs)
 
-past-none : (xs : List ℕ) → 1 ≤ length xs → 48 ≤ getD xs 0 0 → pastSpaces xs ≡ xs
+past-none : (xs : List ℕ) → 48 ≤ getD xs 0 0 → pastSpaces xs ≡ xs
 unfolding pastSpaces
-past-none [] some h = refl
-past-none (x ∷ xs) some h = rw (ne-eqb x 32 (λ e. omega arith))
+past-none [] h = refl
+past-none (x ∷ xs) h = rw (ne-eqb x 32 (λ e. omega arith))
 
 cell-number : (width n : ℕ) → n < 2 ^ 32 → value 0 (pastSpaces (cell width n)) ≡ n
 unfolding cell digit
 cell-number width n h =
     let is = numerals n (omega arith) in
-    ap (value 0) (past-spaces (width - length (decimal n)) (decimal n) ∙ past-none (decimal n) (decimal-some n) (is .digits 0 (decimal-some n) .0))
+    ap (value 0) (past-spaces (width - length (decimal n)) (decimal n) ∙ past-none (decimal n) (is .digits 0 (decimal-some n) .0))
     ∙ is .value-is
 
 cell-at : {text : List ℕ} {at : ℕ} (width n : ℕ) → At text at (cell width n) → length (decimal n) ≤ width → n < 2 ^ 32 → cellAt text at width ≡ n
@@ -147,7 +147,7 @@ module _ (t r : ℕ) (table : List ℕ) (tall : t ≤ 16384) where
       (λ k h. getD-tab own (t * r) k 0 (omega (arith, length-tab own (t * r))))
 
 pub page-text : PageTexts
-page-text t r table t-low t-high r-low r-high exact small = record {
+page-text t r table t-high r-low r-high exact small = record {
   long = length-page t r table t-high r-low;
   reads-back = back t r table t-high exact small;
   rows = λ p i there l. label-reads t r table t-high p there i l;

@@ -38,5 +38,5 @@ pub record PageText (t r : ℕ) (table : List ℕ) : Type 0 where
   pub columns : (j : ℕ) → j < r → cellAt (page t r table) (lineAt t r (j / 6) 0 + 5 + 11 * (j % 6)) 11 ≡ j + 1
 
 abbrev pub PageTexts : Type 0
-PageTexts = (t r : ℕ) (table : List ℕ) → 1 ≤ t → t ≤ 16384 → 1 ≤ r → r ≤ 16384 → length table ≡ t * r → AllBelow (2 ^ 32) table
+PageTexts = (t r : ℕ) (table : List ℕ) → t ≤ 16384 → 1 ≤ r → r ≤ 16384 → length table ≡ t * r → AllBelow (2 ^ 32) table
     → PageText t r table
