@@ -2,7 +2,8 @@
 --
 --   message-numbered   every test of a message has a number
 --   arrived-by         what an arrival returns, by its number and by whether its host is heard
---   told-message, told-answer, told-again  a test of the message tells the number; or 22 or 12 does; or the last test, 23
+--   told-message, told-answer, told-minute, told-again  a test of the message tells the number; or 22 or 12 does; or 30 does; or
+--                      the last test, 23
 --   refused            a message is refused by a number that is not 0: the store stays
 --   taken              a message of a host not heard is taken: the host's block is written, and its bit is set
 --   again              a message of a host heard is in already or gets 23: the store stays
@@ -26,7 +27,7 @@ use Rattle.refusal.specs.Chain.{Test, first, outcome, unlessRefused, differs}
 use Rattle.refusal.proofs.Chains.{first-none, first-hit, first-miss, first-clear, first-append, first-append-hit, outcome-done, unless-done, unless-refused, numbered}
 use Rattle.plan.specs.declared.Job.{Job}
 use Rattle.plan.specs.declared.Planned.the-variants.{Refused as Planned·Refused}
-use Rattle.plan.specs.Planning.{blockRows, blockColumns, planTests, planned}
+use Rattle.plan.specs.Planning.{blockRows, blockColumns, inWindow, planTests, planned}
 use Rattle.plan.proofs.Then.{then-refused, then-own}
 use Rattle.message_header.specs.declared.Header.{Header}
 use Rattle.message_header.specs.Header.{headerTests, headerOf, elementCount, fieldTests}
@@ -37,7 +38,7 @@ use Rattle.message.proofs.Fields.{readable}
 use Rattle.arrival_heard.specs.Heard.{isHeard, withHost}
 use Rattle.arrival.specs.declared.Arrived.{Arrived}
 use Rattle.arrival.specs.declared.Arrived.the-variants.{Taken, AlreadyIn, Refused}
-use Rattle.arrival.specs.Arriving.{answerLength, storeLength, withBlock, hostIndex, foreign, repeated, stateTests, answerTests, againTests}
+use Rattle.arrival.specs.Arriving.{answerLength, storeLength, withBlock, hostIndex, foreign, repeated, stateTests, answerTests, minuteTests, againTests}
 use Rattle.arrival.specs.Arriving.{arrivalTests, entered, storeEntered, arrived, storeAfter}
 use Rattle.arrival.specs.Contracts.{receivedTests, received, storeReceived}
 
@@ -56,36 +57,46 @@ by-number tests next after store n ne e =
 
 -- ---- a message
 
-module _ (job : Job) (heard : ℕ) (store message : List ℕ) where
-  pub told-message : (n : ℕ) → (n ≡ 0 → ⊥) → first (messageTests message) ≡ n → first (receivedTests job heard store message) ≡ n
+module _ (job : Job) (heard : ℕ) (store message : List ℕ) (minute : ℕ) where
+  pub told-message : (n : ℕ) → (n ≡ 0 → ⊥) → first (messageTests message) ≡ n → first (receivedTests job heard store message minute) ≡ n
   unfolding receivedTests
   told-message n ne e = first-append-hit (messageTests message) _ n ne e
 
   module _ (read : first (messageTests message) ≡ 0) where
-    past-message : first (receivedTests job heard store message)
-        ≡ first (answerTests job (headerOf message) ++ againTests (answerLength job) heard store message)
+    past-message : first (receivedTests job heard store message minute)
+        ≡ first (answerTests job (headerOf message) ++ (minuteTests job minute ++ againTests (answerLength job) heard store message))
     unfolding receivedTests
     past-message = first-append (messageTests message) _ (message-numbered message) read
 
-    pub told-answer : (n : ℕ) → (n ≡ 0 → ⊥) → first (answerTests job (headerOf message)) ≡ n → first (receivedTests job heard store message) ≡ n
+    pub told-answer : (n : ℕ) → (n ≡ 0 → ⊥) → first (answerTests job (headerOf message)) ≡ n → first (receivedTests job heard store message minute) ≡ n
     told-answer n ne e = past-message ∙ first-append-hit (answerTests job (headerOf message)) _ n ne e
 
-    pub told-again : first (answerTests job (headerOf message)) ≡ 0
-        → first (receivedTests job heard store message) ≡ first (againTests (answerLength job) heard store message)
-    unfolding answerTests numbered
-    told-again e = past-message ∙ first-append (answerTests job (headerOf message)) _ tt e
+    module _ (answer : first (answerTests job (headerOf message)) ≡ 0) where
+      past-answer : first (receivedTests job heard store message minute)
+          ≡ first (minuteTests job minute ++ againTests (answerLength job) heard store message)
+      unfolding answerTests numbered
+      past-answer = past-message ∙ first-append (answerTests job (headerOf message)) _ tt answer
 
-  pub refused : (n : ℕ) → (n ≡ 0 → ⊥) → first (receivedTests job heard store message) ≡ n
-      → (Refused n ≡ received job heard store message) × (store ≡ storeReceived job heard store message)
+      pub told-minute : inWindow job minute ≡ false → first (receivedTests job heard store message minute) ≡ 30
+      unfolding minuteTests
+      told-minute e = past-answer ∙ first-hit _ 30 _ (ap not e)
+
+      pub told-again : inWindow job minute ≡ true
+          → first (receivedTests job heard store message minute) ≡ first (againTests (answerLength job) heard store message)
+      unfolding minuteTests
+      told-again e = past-answer ∙ first-miss _ 30 _ (ap not e)
+
+  pub refused : (n : ℕ) → (n ≡ 0 → ⊥) → first (receivedTests job heard store message minute) ≡ n
+      → (Refused n ≡ received job heard store message minute) × (store ≡ storeReceived job heard store message minute)
   unfolding received storeReceived
-  refused = by-number (receivedTests job heard store message) _ _ store
+  refused = by-number (receivedTests job heard store message minute) _ _ store
 
   -- where the last test decides
-  module _ (last : first (receivedTests job heard store message) ≡ first (againTests (answerLength job) heard store message)) where
+  module _ (last : first (receivedTests job heard store message minute) ≡ first (againTests (answerLength job) heard store message)) where
     pub taken : {next : ℕ} {after : List ℕ} → isHeard heard (hostIndex (headerOf message)) ≡ false
         → next ≡ withHost heard (hostIndex (headerOf message))
         → after ≡ withBlock (answerLength job) store (hostIndex (headerOf message)) (elements message)
-        → (Taken next ≡ received job heard store message) × (after ≡ storeReceived job heard store message)
+        → (Taken next ≡ received job heard store message minute) × (after ≡ storeReceived job heard store message minute)
     unfolding received storeReceived againTests entered storeEntered
     taken new bit block =
         let i = hostIndex (headerOf message) in
@@ -93,16 +104,16 @@ module _ (job : Job) (heard : ℕ) (store message : List ℕ) where
           ap Taken bit ∙ sym (ap (λ (t : Bool). cond t AlreadyIn (Taken (withHost heard i))) new) ∙ sym (outcome-done _ Refused _ passed),
           block
               ∙ sym (ap (λ (t : Bool). cond t store (withBlock (answerLength job) store i (elements message))) new)
-              ∙ sym (unless-done (receivedTests job heard store message) _ store passed),
+              ∙ sym (unless-done (receivedTests job heard store message minute) _ store passed),
         )
 
     pub again : {r : Arrived} → isHeard heard (hostIndex (headerOf message)) ≡ true
         → r ≡ cond (repeated (answerLength job) store message) AlreadyIn (Refused 23)
-        → (r ≡ received job heard store message) × (store ≡ storeReceived job heard store message)
+        → (r ≡ received job heard store message minute) × (store ≡ storeReceived job heard store message minute)
     unfolding received storeReceived againTests entered storeEntered
     again {r} old is =
         let i = hostIndex (headerOf message) in
-        let told : (t : Bool) → repeated (answerLength job) store message ≡ t → first (receivedTests job heard store message) ≡ first ((not t, 23) ∷ [])
+        let told : (t : Bool) → repeated (answerLength job) store message ≡ t → first (receivedTests job heard store message minute) ≡ first ((not t, 23) ∷ [])
         = λ t e. last ∙ ap₂ (λ (a b : Bool). first ((a && not b, 23) ∷ [])) old e in
         let is-by : (t : Bool) → repeated (answerLength job) store message ≡ t → r ≡ cond t AlreadyIn (Refused 23)
         = λ t e. is ∙ ap (λ (t : Bool). cond t AlreadyIn (Refused 23)) e in
@@ -111,7 +122,7 @@ module _ (job : Job) (heard : ℕ) (store message : List ℕ) where
         let passed = told true e ∙ first-miss false 23 [] refl ∙ first-none in (
           is-by true e ∙ sym (ap (λ (t : Bool). cond t AlreadyIn (Taken (withHost heard i))) old) ∙ sym (outcome-done _ Refused _ passed),
           sym (ap (λ (t : Bool). cond t store (withBlock (answerLength job) store i (elements message))) old)
-              ∙ sym (unless-done (receivedTests job heard store message) _ store passed),
+              ∙ sym (unless-done (receivedTests job heard store message minute) _ store passed),
         ))
         (λ (e : repeated (answerLength job) store message ≡ false).
         let out = refused 23 (suc-ne-zero 22) (told false e ∙ first-hit true 23 [] refl) in
@@ -120,32 +131,32 @@ module _ (job : Job) (heard : ℕ) (store message : List ℕ) where
 
 -- ---- an arrival
 
-module _ (job : Job) (points : List ℕ) (heard : ℕ) (store message : List ℕ) where
-  turned-down : (n : ℕ) → (n ≡ 0 → ⊥) → first (arrivalTests job points heard store message) ≡ n
-      → (Refused n ≡ arrived job points heard store message) × (store ≡ storeAfter job points heard store message)
+module _ (job : Job) (points : List ℕ) (heard : ℕ) (store message : List ℕ) (minute : ℕ) where
+  turned-down : (n : ℕ) → (n ≡ 0 → ⊥) → first (arrivalTests job points heard store message minute) ≡ n
+      → (Refused n ≡ arrived job points heard store message minute) × (store ≡ storeAfter job points heard store message minute)
   unfolding arrived storeAfter
-  turned-down = by-number (arrivalTests job points heard store message) _ _ store
+  turned-down = by-number (arrivalTests job points heard store message minute) _ _ store
 
   pub by-plan : {n : ℕ} → planned job points ≡ Planned·Refused n
-      → (Refused n ≡ arrived job points heard store message) × (store ≡ storeAfter job points heard store message)
+      → (Refused n ≡ arrived job points heard store message minute) × (store ≡ storeAfter job points heard store message minute)
   unfolding arrivalTests
   by-plan e = let told = then-refused job points _ e in turned-down _ (told .1) (told .0)
 
   module _ (plan : first (planTests job points) ≡ 0) where
-    past-plan : first (arrivalTests job points heard store message) ≡ first (stateTests job heard (length store) ++ receivedTests job heard store message)
+    past-plan : first (arrivalTests job points heard store message minute) ≡ first (stateTests job heard (length store) ++ receivedTests job heard store message minute)
     unfolding arrivalTests receivedTests
     past-plan = then-own job points _ plan
 
     pub by-state : (n : ℕ) → (n ≡ 0 → ⊥) → first (stateTests job heard (length store)) ≡ n
-        → (Refused n ≡ arrived job points heard store message) × (store ≡ storeAfter job points heard store message)
+        → (Refused n ≡ arrived job points heard store message minute) × (store ≡ storeAfter job points heard store message minute)
     by-state n ne e = turned-down n ne (past-plan ∙ first-append-hit (stateTests job heard (length store)) _ n ne e)
 
     pub passed-on : first (stateTests job heard (length store)) ≡ 0
-        → (received job heard store message ≡ arrived job points heard store message)
-        × (storeReceived job heard store message ≡ storeAfter job points heard store message)
+        → (received job heard store message minute ≡ arrived job points heard store message minute)
+        × (storeReceived job heard store message minute ≡ storeAfter job points heard store message minute)
     unfolding stateTests numbered received storeReceived arrived storeAfter unlessRefused
     passed-on state =
-        let same = past-plan ∙ first-append (stateTests job heard (length store)) (receivedTests job heard store message) tt state in
+        let same = past-plan ∙ first-append (stateTests job heard (length store)) (receivedTests job heard store message minute) tt state in
         (rw same, rw same)
 
 -- ---- what the tests tell

@@ -1,4 +1,4 @@
--- Arrivals (01, "Arrivals" and "What is turned down", Arrival; 02, U1).
+-- Arrivals (01, "Arrivals" and "What is turned down", Arrival; 02, U1 and U7).
 -- An index counts from 0: host i has index i - 1.
 --
 --   answerLength job     == how many elements an answer block has
@@ -10,6 +10,7 @@
 --   repeated size store message == a message equals, byte for byte, what is stored for its host
 --   stateTests job heard room == 21 and 13: the hosts heard and the store, which has room for that many elements
 --   answerTests job h    == 22 and 12: a message's fields beside the job
+--   minuteTests job minute == 30: the minute of an arrival is outside the window
 --   againTests size heard store message == 23: a second message of a host that differs from the first
 --   arrivalTests         == the tests of an arrival, in the sheet's order, the plan's first
 --   entered heard message == what an arrival returns that no number fits: it is taken, or it is in already
@@ -26,7 +27,7 @@ use lib.ListN.{length, take, drop}
 use Rattle.algebra.specs.Lists.{same}
 use Rattle.refusal.specs.Chain.{Test, first, outcome, unlessRefused, differs}
 use Rattle.plan.specs.declared.Job.{Job}
-use Rattle.plan.specs.Planning.{blockRows, blockColumns, planTests}
+use Rattle.plan.specs.Planning.{blockRows, blockColumns, inWindow, planTests}
 use Rattle.message_bytes.specs.Bytes.{bytesOf}
 use Rattle.message_header.specs.declared.Header.{Header}
 use Rattle.message_header.specs.Header.{headerOf}
@@ -66,14 +67,19 @@ stateTests job heard room = (someAbove (job .hosts) heard, 21) ∷ (differs room
 unfoldable pub answerTests : Job → Header → List Test
 answerTests job h = (foreign job h, 22) ∷ (ltb (job .hosts) (h .host), 12) ∷ []
 
+-- "30, arrival outside the window, just before 23 and before "already in"" (02, U7)
+unfoldable pub minuteTests : Job → ℕ → List Test
+minuteTests job minute = (not (inWindow job minute), 30) ∷ []
+
 -- "A differing second message still gets 23" (02, U1)
 unfoldable pub againTests : ℕ → ℕ → List ℕ → List ℕ → List Test
 againTests size heard store message = (isHeard heard (hostIndex (headerOf message)) && not (repeated size store message), 23) ∷ []
 
-unfoldable pub arrivalTests : Job → List ℕ → ℕ → List ℕ → List ℕ → List Test
-arrivalTests job points heard store message =
+unfoldable pub arrivalTests : Job → List ℕ → ℕ → List ℕ → List ℕ → ℕ → List Test
+arrivalTests job points heard store message minute =
     planTests job points ++ (stateTests job heard (length store)
-    ++ (messageTests message ++ (answerTests job (headerOf message) ++ againTests (answerLength job) heard store message)))
+    ++ (messageTests message ++ (answerTests job (headerOf message)
+    ++ (minuteTests job minute ++ againTests (answerLength job) heard store message))))
 
 -- of a host heard, it is "already in" and changes nothing (02, U1)
 unfoldable pub entered : ℕ → List ℕ → Arrived
@@ -83,12 +89,13 @@ unfoldable pub storeEntered : ℕ → ℕ → List ℕ → List ℕ → List ℕ
 storeEntered size heard store message =
     let index = hostIndex (headerOf message) in cond (isHeard heard index) store (withBlock size store index (elements message))
 
-unfoldable pub arrived : Job → List ℕ → ℕ → List ℕ → List ℕ → Arrived
-arrived job points heard store message = outcome (first (arrivalTests job points heard store message)) (entered heard message) Refused
+unfoldable pub arrived : Job → List ℕ → ℕ → List ℕ → List ℕ → ℕ → Arrived
+arrived job points heard store message minute =
+    outcome (first (arrivalTests job points heard store message minute)) (entered heard message) Refused
 
-unfoldable pub storeAfter : Job → List ℕ → ℕ → List ℕ → List ℕ → List ℕ
-storeAfter job points heard store message =
-    unlessRefused (arrivalTests job points heard store message) (storeEntered (answerLength job) heard store message) store
+unfoldable pub storeAfter : Job → List ℕ → ℕ → List ℕ → List ℕ → ℕ → List ℕ
+storeAfter job points heard store message minute =
+    unlessRefused (arrivalTests job points heard store message minute) (storeEntered (answerLength job) heard store message) store
 
 abbrev pub numberOf : Arrived → ℕ
 numberOf (Taken heard) = 0

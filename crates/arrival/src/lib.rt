@@ -5,7 +5,7 @@ ghost use Prim.Native.Nat.{_+_, _*_, _≤_};
 ghost use lib.ListN.{length};
 ghost use Rattle.refusal.specs.Chain.{first};
 ghost use Rattle.refusal.specs.Limits.{mostElements};
-ghost use Rattle.plan.specs.Planning.{blockRows, blockColumns};
+ghost use Rattle.plan.specs.Planning.{blockRows, blockColumns, inWindow};
 ghost use Rattle.message_header.specs.Header.{headerOf, elementCount};
 ghost use Rattle.message.specs.Format.{elements};
 ghost use Rattle.arrival.specs.Arriving.{
@@ -78,6 +78,13 @@ fn answer_refusal(job: Job, rows: u32, columns: u32, h: Header) -> u32
     0
 }
 
+// The minute of an arrival is inside the window: from the opening minute on and up to the one before the closing minute.
+fn in_window(job: Job, minute: u32) -> bool
+    ensures { λ r. ⌜ r ≡ inWindow job minute ⌝ }
+{
+    (job.opening <= minute) & (minute < job.closing)
+}
+
 // What a message of a host heard already returns: it is in already, where it is what is stored for that host; or 23.
 fn heard_again(index: usize, size: usize, message: &[u8], store: &[u32]) -> Arrived
     requires { ⌜ index ≡ hostIndex (headerOf (now message))
@@ -114,11 +121,12 @@ fn take_message(
     heard: u64,
     store: &mut [u32],
     message: &[u8],
+    minute: u32,
 ) -> Arrived
     requires { ⌜ rows ≡ blockRows job × columns ≡ blockColumns job × rows * columns ≤ mostElements × job .hosts ≤ 64
         × length (now store) ≡ storeLength job ⌝ }
-    ensures outcome { λ r. ⌜ r ≡ received job heard (now (store .entry)) (now (message .entry)) ⌝ }
-    ensures kept { λ _. ⌜ now (store .exit) ≡ storeReceived job heard (now (store .entry)) (now (message .entry)) ⌝ }
+    ensures outcome { λ r. ⌜ r ≡ received job heard (now (store .entry)) (now (message .entry)) minute ⌝ }
+    ensures kept { λ _. ⌜ now (store .exit) ≡ storeReceived job heard (now (store .entry)) (now (message .entry)) minute ⌝ }
 {
     let parsed = message::examine(message);
     match parsed {
@@ -127,6 +135,9 @@ fn take_message(
             let refused = answer_refusal(job, rows, columns, h);
             if refused != 0 {
                 return Arrived::Refused(refused);
+            }
+            if !in_window(job, minute) {
+                return Arrived::Refused(refusal::OUTSIDE_WINDOW);
             }
             let index = h.host - 1;
             let size = (rows * columns) as usize;
@@ -141,12 +152,19 @@ fn take_message(
     }
 }
 
-// Takes an answer's message: its elements are written over its host's block of the store, and its host counts as heard; or it
-// is in already, or refused by number, and the store stays as it was.
-pub fn arrive(job: Job, points: &[u32], heard: u64, store: &mut [u32], message: &[u8]) -> Arrived
-    ensures outcome { λ r. ⌜ r ≡ arrived job (now (points .entry)) heard (now (store .entry)) (now (message .entry)) ⌝ }
+// Takes an answer's message at a minute: its elements are written over its host's block of the store, and its host counts as
+// heard; or it is in already, or refused by number, and the store stays as it was.
+pub fn arrive(
+    job: Job,
+    points: &[u32],
+    heard: u64,
+    store: &mut [u32],
+    message: &[u8],
+    minute: u32,
+) -> Arrived
+    ensures outcome { λ r. ⌜ r ≡ arrived job (now (points .entry)) heard (now (store .entry)) (now (message .entry)) minute ⌝ }
     ensures kept { λ _. ⌜ now (store .exit)
-        ≡ storeAfter job (now (points .entry)) heard (now (store .entry)) (now (message .entry)) ⌝ }
+        ≡ storeAfter job (now (points .entry)) heard (now (store .entry)) (now (message .entry)) minute ⌝ }
 {
     let planned = plan::plan_job(job, points);
     match planned {
@@ -157,7 +175,7 @@ pub fn arrive(job: Job, points: &[u32], heard: u64, store: &mut [u32], message: 
             if state != 0 {
                 return Arrived::Refused(state);
             }
-            take_message(job, plan.rows, plan.columns, heard, store, message)
+            take_message(job, plan.rows, plan.columns, heard, store, message, minute)
         }
     }
 }

@@ -20,14 +20,15 @@ use Rattle.layout.specs.Exponents.{Exponents, exponents, number, term}
 use Rattle.layout.specs.Sound.{Cut, Sound}
 use Rattle.layout.proofs.Soundness.{sound}
 use Rattle.plan.specs.declared.Job.{Job}
+use Rattle.plan.specs.declared.Table.{Table}
 use Rattle.plan.specs.declared.Planned.the-variants.{Accepted, Refused}
-use Rattle.plan.specs.Planning.{parameters, modulusOf, layoutOf, neededOf, planTests, planOf, planned}
+use Rattle.plan.specs.Planning.{parameters, modulusOf, layoutOf, neededOf, planTests, planOf, planned, tableJob}
 use Rattle.plan.proofs.Facts.{Fits, facts}
 use Rattle.text.specs.Ascii.{ascii}
 use Rattle.text.specs.Decimal.{decimal}
 use Rattle.text.proofs.Decimals.{decimal-length, decimal-short}
 use Rattle.lister_line.specs.Line.{lineOf}
-use Rattle.lister.specs.Listing.{value, values, line, sideLine, numberLines, aLine, bLine, cLine, planText, refusedText, jobOf, replyText, reply, listing, listingRoom}
+use Rattle.lister.specs.Listing.{value, values, line, sideLine, numberLines, aLine, bLine, cLine, planText, refusedText, lineTable, replyText, reply, listing, listingRoom}
 use Rattle.lister.proofs.Lines.{row-more, grid-more, line-one}
 
 value-length : (n : ℕ) → n < 100000 → length (value n) ≤ 6
@@ -178,10 +179,13 @@ module _ (job : Job) (fits : Fits job) where
       let c = cLine (layoutOf job) g in
       omega (arith, length-append n (a ++ (b ++ c)), length-append a (b ++ c), length-append b c, number-room, a-room, b-room, c-room)
 
-reply-room : (job : Job) → length (reply job) ≤ listingRoom
-unfolding reply replyText planned outcome
-reply-room job = go (first (planTests job (tab suc (job .hosts)))) refl
+reply-room : (table : Table) → length (reply table) ≤ listingRoom
+unfolding reply replyText planned tableJob outcome
+reply-room table = go (first (planTests job (tab suc (job .hosts)))) refl
   where
+    job : Job
+    job = tableJob table
+
     go : (n : ℕ) → first (planTests job (tab suc (job .hosts))) ≡ n → length (replyText (job .hosts) (outcome n (Accepted (planOf job)) Refused)) ≤ listingRoom
     go zero e = plan-room job (facts job (tab suc (job .hosts)) e .fits)
     go (suc n) e = refused-room (suc n)
@@ -190,6 +194,6 @@ pub room : (input : List ℕ) → length (listing input) ≤ listingRoom
 unfolding listing
 room input = go (lineOf input .ok)
   where
-    go : (b : Bool) → length (cond b (reply (jobOf (lineOf input .numbers))) (refusedText 26)) ≤ listingRoom
-    go true = reply-room (jobOf (lineOf input .numbers))
+    go : (b : Bool) → length (cond b (reply (lineTable (lineOf input .numbers))) (refusedText 26)) ≤ listingRoom
+    go true = reply-room (lineTable (lineOf input .numbers))
     go false = refused-room 26

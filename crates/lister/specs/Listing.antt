@@ -1,4 +1,4 @@
--- The plan lister (01, "The plan lister").
+-- The plan lister (01, "The plan lister"; 02, U7).
 --
 --   value n, values ns          == a number in decimal after a space, and numbers so
 --   line label ns               == a line: its label, then its values
@@ -7,9 +7,9 @@
 --   aLine, bLine, cLine         == the lines of A, of B and of C
 --   planText hosts plan         == the seven lines of a plan
 --   refusedText n               == the line of a refusal
---   jobOf ns                    == the job of the ten numbers of a line
+--   lineTable ns                == the table of the ten numbers of a line
 --   replyText hosts planned     == the text of what planning returns
---   reply job                   == what is printed for a job, with the points 1..N
+--   reply table                 == what is printed for a table, with the points 1..N
 --   listing input               == what is printed for an input: 26 comes before all others
 --   listingRoom                 == the bytes in which every listing has room
 use mathlib.Core.Bool.{cond}
@@ -21,11 +21,11 @@ use Rattle.field.specs.Modulus.{prime}
 use Rattle.layout.specs.declared.Parameters.{Parameters}
 use Rattle.layout.specs.declared.Layout.{Layout}
 use Rattle.layout.specs.Exponents.{exponents, number, term}
-use Rattle.plan.specs.declared.Job.{Job}
+use Rattle.plan.specs.declared.Table.{Table}
 use Rattle.plan.specs.declared.Plan.{Plan}
 use Rattle.plan.specs.declared.Planned.{Planned}
 use Rattle.plan.specs.declared.Planned.the-variants.{Accepted, Refused}
-use Rattle.plan.specs.Planning.{planned}
+use Rattle.plan.specs.Planning.{planned, tableJob}
 use Rattle.text.specs.Ascii.{ascii}
 use Rattle.text.specs.Decimal.{decimal}
 use Rattle.lister_line.specs.Line.{lineOf}
@@ -79,8 +79,8 @@ unfoldable pub refusedText : ℕ → List ℕ
 refusedText n = line (ascii "REFUSED") (n ∷ [])
 
 -- the lister knows no job number: it is 0
-unfoldable pub jobOf : List ℕ → Job
-jobOf ns = record {
+unfoldable pub lineTable : List ℕ → Table
+lineTable ns = record {
   modulus = getD ns 0 0;
   t = getD ns 1 0;
   s = getD ns 2 0;
@@ -98,11 +98,12 @@ unfoldable pub replyText : ℕ → Planned → List ℕ
 replyText hosts (Accepted plan) = planText hosts plan
 replyText hosts (Refused n) = refusedText n
 
-unfoldable pub reply : Job → List ℕ
-reply job = replyText (job .hosts) (planned job (tab suc (job .hosts)))
+-- "the lister knows no window" (02, U7)
+unfoldable pub reply : Table → List ℕ
+reply table = replyText (table .hosts) (planned (tableJob table) (tab suc (table .hosts)))
 
 unfoldable pub listing : List ℕ → List ℕ
-listing input = let l = lineOf input in cond (l .ok) (reply (jobOf (l .numbers))) (refusedText 26)
+listing input = let l = lineOf input in cond (l .ok) (reply (lineTable (l .numbers))) (refusedText 26)
 
 abbrev pub listingRoom : ℕ
 listingRoom = 4096

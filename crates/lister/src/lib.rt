@@ -7,7 +7,7 @@ ghost use lib.ListN.{length, drop};
 ghost use Rattle.algebra.specs.Lists.{tab, grid};
 ghost use Rattle.layout.specs.Exponents.{number};
 ghost use Rattle.layout.specs.Contracts.{exponentBy};
-ghost use Rattle.plan.specs.Planning.{planned};
+ghost use Rattle.plan.specs.Planning.{planned, tableJob};
 ghost use Rattle.text.specs.Contracts.{Writes};
 ghost use Rattle.lister.specs.Listing.{
   value,
@@ -16,16 +16,16 @@ ghost use Rattle.lister.specs.Listing.{
   numberLines,
   planText,
   refusedText,
-  jobOf,
+  lineTable,
   listing,
 };
 ghost use Rattle.lister.specs.Contracts.{Lists, sideText, placesText};
 use layout::Layout;
 use layout::Series;
 use layout::Strides;
-use plan::Job;
 use plan::Plan;
 use plan::Planned;
+use plan::Table;
 
 // The bytes in which every listing has room.
 pub const LISTING_ROOM: usize = 4096;
@@ -169,11 +169,11 @@ fn put_refused(out: &mut [u8; LISTING_ROOM], n: u32) -> usize
     put_line(out, 0, b"REFUSED", n)
 }
 
-// The job of the ten numbers of a line.
-fn job_of(numbers: [u32; 10]) -> Job
-    ensures { λ r. ⌜ r ≡ jobOf numbers ⌝ }
+// The table of the ten numbers of a line.
+fn line_table(numbers: [u32; 10]) -> Table
+    ensures { λ r. ⌜ r ≡ lineTable numbers ⌝ }
 {
-    Job {
+    Table {
         modulus: numbers[0],
         t: numbers[1],
         s: numbers[2],
@@ -201,13 +201,14 @@ fn all_points() -> [u32; MOST_POINTS]
     points
 }
 
-// Plans a job with the points 1 to N. No job has more than 64 hosts, so 64 points are enough.
-fn plan_of(job: Job) -> Planned
-    ensures { λ r. ⌜ r ≡ planned job (tab suc (job .hosts)) ⌝ }
+// Plans a table's job with the points 1 to N. No job has more than 64 hosts, so 64 points are enough.
+fn plan_of(table: Table) -> Planned
+    ensures { λ r. ⌜ r ≡ planned (tableJob table) (tab suc (table .hosts)) ⌝ }
 {
+    let job = plan::table_job(table);
     let points = all_points();
-    if job.hosts < refusal::MOST_HOSTS {
-        let hosts = job.hosts as usize;
+    if table.hosts < refusal::MOST_HOSTS {
+        let hosts = table.hosts as usize;
         return plan::plan_job(job, &points[..hosts]);
     }
     plan::plan_job(job, &points)
@@ -225,9 +226,9 @@ pub fn list(input: &[u8], out: &mut [u8; LISTING_ROOM]) -> usize
         return put_refused(out, refusal::TEXT);
     }
     let numbers = line.numbers;
-    let job = job_of(numbers);
-    match plan_of(job) {
-        Planned::Accepted(plan) => list_plan(job.hosts, plan, out),
+    let table = line_table(numbers);
+    match plan_of(table) {
+        Planned::Accepted(plan) => list_plan(table.hosts, plan, out),
         Planned::Refused(n) => put_refused(out, n),
     }
 }

@@ -1,6 +1,7 @@
--- What an accepted plan tells: all that its tests 1 to 11 rule out is ruled out.
+-- What an accepted plan tells: all that its tests rule out is ruled out.
 --
---   Facts job points    the numbers are in range, divide, fit and suffice; the points are N distinct elements that are not 0
+--   Facts job points    the numbers are in range, divide, fit and suffice; the window opens before it closes; the points are N
+--                       distinct elements that are not 0
 --   facts               they hold where no plan number fits
 --   planned-facts       planning does not refuse: no plan number fits
 --   points-unseen       with over 64 hosts the points play no part
@@ -25,11 +26,11 @@ use Rattle.field.proofs.Moduli.{Known, known-number}
 use Rattle.plan.specs.declared.Job.{Job}
 use Rattle.plan.specs.declared.Plan.{Plan}
 use Rattle.plan.specs.declared.Planned.the-variants.{Accepted, Refused}
-use Rattle.plan.specs.Planning.{prime, blockRows, blockInner, blockColumns, neededOf, planOf, rangeTests, fitTests, member, pointTestsAt, allPointTests, pointTests, planTests, planned}
+use Rattle.plan.specs.Planning.{prime, blockRows, blockInner, blockColumns, neededOf, planOf, rangeTests, windowTest, fitTests, member, pointTestsAt, allPointTests, pointTests, planTests, planned}
 use Rattle.plan.proofs.Ranges.{Ranged, ranged}
 use Rattle.plan.proofs.Points.{member-at, points-numbered}
 
--- 1 to 8
+-- 1 to 8, and 29
 pub record Fits (job : Job) : Type 0 where
   pub known : Known (job .modulus) (prime job)
   pub ranged : Ranged job
@@ -42,6 +43,7 @@ pub record Fits (job : Job) : Type 0 where
   pub hosts-low : 1 ≤ job .hosts
   pub hosts-high : job .hosts ≤ 64
   pub enough : neededOf job ≤ job .hosts
+  pub opens-before : job .opening < job .closing
 
 pub record Facts (job : Job) (points : List ℕ) : Type 0 where
   pub fits : Fits job
@@ -52,12 +54,13 @@ pub record Facts (job : Job) (points : List ℕ) : Type 0 where
 
 module _ (job : Job) (modulus : noModulus (job .modulus) ≡ false) (range : first (rangeTests job) ≡ 0) (fit : first (fitTests job) ≡ 0) where
   fits-of : Fits job
-  unfolding fitTests prime
+  unfolding fitTests windowTest prime
   fits-of =
       let division = first-clear _ 4 _ fit in
       let block = first-clear _ 5 _ (division .1) in
       let hosts = first-clear _ 6 _ (block .1) in
       let needed = first-clear _ 7 _ (hosts .1) in
+      let window = first-clear _ 28 _ (needed .1) in
       let whole = or-all (not (eqb (job .t % job .m) 0)) (not (eqb (job .s % job .p) 0)) (not (eqb (job .r % job .n) 0)) (division .0) in
       let small = blocks-fit (blockRows job) (blockInner job) (blockColumns job) (block .0) in
       let h1 = outside 1 64 (job .hosts) in
@@ -74,6 +77,7 @@ module _ (job : Job) (modulus : noModulus (job .modulus) ≡ false) (range : fir
         hosts-low = inside-low 1 64 _ (or-left h1 h2 (hosts .0));
         hosts-high = inside-high 1 64 _ (or-left h1 h2 (hosts .0));
         enough = ltb-false (job .hosts) _ (needed .0);
+        opens-before = leb-false (job .closing) (job .opening) (window .0);
       }
 
 -- ---- the points
@@ -142,7 +146,7 @@ module _ (job : Job) (points : List ℕ) where
       go zero is e = (is, cc)
       go (suc n) is e = let z : _≡_ {A = ℕ} 1 0 = cc in absurd (suc-ne-zero 0 z)
 
--- the tests 1 to 8
+-- the tests 1 to 8, and 29
 fronts : Job → List Test
 fronts job = (noModulus (job .modulus), 1) ∷ (rangeTests job ++ fitTests job)
 

@@ -12,6 +12,7 @@ ghost use Rattle.plan.specs.Planning.{
   member,
   pointTests,
   planned,
+  tableJob,
 };
 use field::Modulus;
 use field::Named;
@@ -22,9 +23,27 @@ use refusal::outside;
 use refusal::over_block;
 use refusal::sizes_outside;
 
-// A job's public numbers: A is t by s and B is s by r; A is cut into m by p blocks, B into p by n; xa and xb are the
-// largest groups kept ignorant of A and of B; number is the job number.
+// A job: eleven public numbers and a window. A is t by s and B is s by r; A is cut into m by p blocks, B into p by n; xa and xb
+// are the largest groups kept ignorant of A and of B; number is the job number. Answers are taken from the minute opening on and
+// up to the one before the minute closing.
 pub struct Job {
+    pub modulus: u32,
+    pub t: u32,
+    pub s: u32,
+    pub r: u32,
+    pub m: u32,
+    pub p: u32,
+    pub n: u32,
+    pub xa: u32,
+    pub xb: u32,
+    pub hosts: u32,
+    pub number: u32,
+    pub opening: u32,
+    pub closing: u32,
+}
+
+// A job's public numbers without a window.
+pub struct Table {
     pub modulus: u32,
     pub t: u32,
     pub s: u32,
@@ -77,7 +96,7 @@ fn range_refusal(job: Job) -> u32
     0
 }
 
-// Tests 5 to 8: the numbers together. q is the job's prime, and needed its number of answers needed.
+// Tests 5 to 8, and 29: the numbers together. q is the job's prime, and needed its number of answers needed.
 fn fit_refusal(job: Job, q: u32, needed: u32) -> u32
     requires { ⌜ first (rangeTests job) ≡ 0 ⌝ }
     requires { ⌜ q ≡ prime job ⌝ }
@@ -95,6 +114,9 @@ fn fit_refusal(job: Job, q: u32, needed: u32) -> u32
     }
     if job.hosts < needed {
         return refusal::NEEDED;
+    }
+    if job.closing <= job.opening {
+        return refusal::WINDOW;
     }
     0
 }
@@ -180,4 +202,25 @@ pub fn plan_job(job: Job, points: &[u32]) -> Planned
         columns: job.r / job.n,
         needed,
     })
+}
+
+// The job of a table, with a window that no test of a plan sees: it opens at the minute 0 and closes at 1.
+pub fn table_job(table: Table) -> Job
+    ensures { λ r. ⌜ r ≡ tableJob table ⌝ }
+{
+    Job {
+        modulus: table.modulus,
+        t: table.t,
+        s: table.s,
+        r: table.r,
+        m: table.m,
+        p: table.p,
+        n: table.n,
+        xa: table.xa,
+        xb: table.xb,
+        hosts: table.hosts,
+        number: table.number,
+        opening: 0,
+        closing: 1,
+    }
 }

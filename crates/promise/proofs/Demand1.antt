@@ -31,7 +31,7 @@ use Rattle.message.specs.Format.{elements, writeTests, messageTests, readTests,
 use Rattle.message.proofs.Outcomes.{read-told}
 use Rattle.arrival.proofs.Outcomes.{arrived-by}
 use Rattle.arrival_heard.specs.Heard.{isHeard, withHost}
-use Rattle.arrival.specs.Arriving.{answerLength, withBlock, hostIndex, stateTests, answerTests, againTests, arrivalTests}
+use Rattle.arrival.specs.Arriving.{answerLength, withBlock, hostIndex, stateTests, answerTests, minuteTests, againTests, arrivalTests}
 use Rattle.arrival.specs.Arriving.{entered, storeEntered, arrived, storeAfter, numberOf, heardAfter, alreadyIn}
 use Rattle.decode.specs.Decoding.{tableTests, decodeTests, tableAfter}
 use Rattle.page.specs.Page.{pageTests, pageAfter}
@@ -127,7 +127,7 @@ after-plan : (job : Job) (points : List ℕ) (tests : List Test) → T (numbered
 after-plan job points tests = numbered-append (planTests job points) tests (plan-numbered job points)
 
 pub demand-1 : Demand1
-unfolding drawTests masksAfter shareTests matrixTests shareAfter productTests productAfter hostTests hostAfter fieldTests writeTests messageTests headerTests readTests written readInto stateTests answerTests againTests arrivalTests entered storeEntered arrived storeAfter put next decodeTests tableTests tableAfter pageTests pageAfter numbered
+unfolding drawTests masksAfter shareTests matrixTests shareAfter productTests productAfter hostTests hostAfter fieldTests writeTests messageTests headerTests readTests written readInto stateTests answerTests minuteTests againTests arrivalTests entered storeEntered arrived storeAfter put next decodeTests tableTests tableAfter pageTests pageAfter numbered
 demand-1 = record {
   plan = λ job points. tells (planTests job points) _ (plan-numbered job points) (plan-told job points);
   draw = λ n words out.
@@ -140,8 +140,8 @@ demand-1 = record {
   read = λ message out.
       let is = read-told message (length out) in
       (tells _ _ tt is, called _ _ _ tt (ap (λ a. a .number) is ∙ told-number _ _));
-  arrival = λ job points heard store message.
-      let tests = arrivalTests job points heard store message in
+  arrival = λ job points heard store message minute.
+      let tests = arrivalTests job points heard store message minute in
       let index = hostIndex (headerOf message) in
       let l = left-by job heard store message (first tests) (isHeard heard index) in
       let c = called tests (storeEntered (answerLength job) heard store message) store (after-plan job points _ tt) (l .number) in (

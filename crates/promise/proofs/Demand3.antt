@@ -15,7 +15,7 @@ pub demand-3 : Demand3
 demand-3 = record {
   hidden = hidden;
   yet = λ x ok ma mb masks-a masks-b store room calls. yet x ok ma mb store room calls;
-  true-fit = λ x ok ma mb masks-a masks-b s room i low. true-fit x ok ma mb i low s room;
+  true-fit = λ x ok ma mb masks-a masks-b s room i minute low. true-fit x ok ma mb i low s room minute;
   made = λ x ok ma mb masks-a masks-b i low. made x ok i low ma mb masks-a masks-b;
 }
 

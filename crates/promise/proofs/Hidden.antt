@@ -1,6 +1,6 @@
 -- The privacy half of demand 3: a group of at most X_A hosts gets byte-equal A messages, one of at most X_B byte-equal B messages.
 --
---   same-numbers      two jobs with the same public numbers have the same numbers
+--   same-numbers      two jobs with the same public numbers are the same but for their windows
 --   largest-count     there are as many masks as hosts in the largest group
 --   hidden            the masks of the two jobs match one to one
 use mathlib.Core.Path.{_≡_, refl, sym, ap, ap₂, _∙_, subst}
@@ -16,7 +16,7 @@ use Rattle.algebra.proofs.Sets.{members-has, members-below, members-distinct}
 use Rattle.algebra.proofs.Points.{pointsAt, points-each, points-apart}
 use Rattle.layout.specs.Exponents.{Exponents, exponents}
 use Rattle.plan.specs.declared.Job.{Job}
-use Rattle.plan.specs.Planning.{prime, parameters, layoutOf}
+use Rattle.plan.specs.Planning.{prime, parameters, blockRows, blockInner, blockColumns, layoutOf, tableFor, tableJob, unwindowed}
 use Rattle.plan.proofs.Facts.{Facts, facts}
 use Rattle.share_side.specs.declared.Matrix.{Matrix}
 use Rattle.share_side.specs.declared.Matrix.the-variants.{A, B}
@@ -27,8 +27,8 @@ use Rattle.promise.specs.Demand3.{Task, SamePublic, Masks, Privacy, publ
 use Rattle.promise.specs.Layouts.{Points, MasksFor, Matched}
 use Rattle.promise.proofs.Layouts.{job-shown}
 
-same-numbers : (x y : Task) → SamePublic x y → x .job ≡ y .job
-unfolding publicNumbers
+same-numbers : (x y : Task) → SamePublic x y → unwindowed (x .job) ≡ unwindowed (y .job)
+unfolding publicNumbers unwindowed tableJob tableFor
 same-numbers x y same =
     let all = same .numbers in
     let at : (k : ℕ) → getD (publicNumbers x) k 0 ≡ getD (publicNumbers y) k 0 = λ k. ap (λ (l : List ℕ). getD l k 0) all in
@@ -44,6 +44,8 @@ same-numbers x y same =
       xb = at 8 i;
       hosts = at 9 i;
       number = at 10 i;
+      opening = 0;
+      closing = 1;
     }
 
 -- the exponents of the job's layout
@@ -103,19 +105,26 @@ module _ (m : Matrix) (job : Job) (points : List ℕ) (known : Facts job points)
 
 -- ---- two jobs
 
--- a header depends on the numbers alone
-same-header : (m : Matrix) (x y : Task) (i : ℕ) → x .job ≡ y .job → shareHeader m x i ≡ shareHeader m y i
-unfolding shareHeader headerFor
+-- a window plays no part in headers, masks and shares
+same-header : (m : Matrix) (x y : Task) (i : ℕ) → unwindowed (x .job) ≡ unwindowed (y .job) → shareHeader m x i ≡ shareHeader m y i
+unfolding unwindowed tableJob tableFor shareHeader headerFor side parameters blockRows blockInner blockColumns
 same-header m x y i e = ap (λ (job : Job). shareHeader m (record { job = job; points = []; a = []; b = [] }) i) e
 
 -- masks for a matrix are masks of its side
-masks-told : (m : Matrix) (x : Task) (job : Job) (ms : List ℕ) → x .job ≡ job → Masks m x ms → MasksFor (prime job) (side m job) ms
+masks-told : (m : Matrix) (x : Task) (job : Job) (ms : List ℕ) → unwindowed (x .job) ≡ unwindowed job → Masks m x ms → MasksFor (prime job) (side m job) ms
+unfolding unwindowed tableJob tableFor prime side parameters blockRows blockInner blockColumns
 masks-told m x job ms e h = subst (λ (job : Job). MasksFor (prime job) (side m job) ms) e (h .exact, h .below)
 
-masks-made : (m : Matrix) (x : Task) (job : Job) (ms : List ℕ) → job ≡ x .job → MasksFor (prime job) (side m job) ms → Masks m x ms
+masks-made : (m : Matrix) (x : Task) (job : Job) (ms : List ℕ) → unwindowed job ≡ unwindowed (x .job) → MasksFor (prime job) (side m job) ms → Masks m x ms
+unfolding unwindowed tableJob tableFor prime side parameters blockRows blockInner blockColumns
 masks-made m x job ms e h =
     let own = subst (λ (job : Job). MasksFor (prime job) (side m job) ms) e h in
     record { exact = own .0; below = own .1 }
+
+same-share : (m : Matrix) (job other : Job) (points points' : List ℕ) (host : ℕ) (xs ms : List ℕ) → unwindowed job ≡ unwindowed other → points ≡ points'
+    → hostShare m job points host xs ms ≡ hostShare m other points' host xs ms
+unfolding unwindowed tableJob tableFor hostShare prime layoutOf side parameters blockRows blockInner blockColumns
+same-share m job other points points' host xs ms e same = ap₂ (λ (j : Job) (ps : List ℕ). hostShare m j ps host xs ms) e same
 
 pub hidden : Privacy
 unfolding shareMessage shareFor
@@ -135,5 +144,5 @@ hidden m x y ax ay same g small =
       same-bytes = λ ms h i l t.
           ap₂ messageOf (same-header m x y (suc i) jobs)
           (same-host m job (x .points) known g few (matrix m x) (matrix m y) ms i l t
-          ∙ ap₂ (λ (job : Job) (points : List ℕ). hostShare m job points (suc i) (matrix m y) (pair .partner ms)) jobs (same .points));
+          ∙ same-share m job (y .job) (x .points) (y .points) (suc i) (matrix m y) (pair .partner ms) jobs (same .points));
     }

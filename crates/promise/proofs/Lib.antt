@@ -21,3 +21,4 @@ pub mod Demand3
 pub mod Order
 pub mod Retried
 pub mod DrawnMasks
+pub mod Windows

@@ -12,6 +12,7 @@ use lib.Dec.{eqb}
 use lib.ListN.{length}
 use Rattle.algebra.proofs.Tests.{by-test, tests-alike}
 use Rattle.refusal.specs.Chain.{first}
+use Rattle.plan.specs.Planning.{inWindow}
 use Rattle.message.specs.Format.{elements}
 use Rattle.arrival_heard.specs.Heard.{isHeard}
 use Rattle.arrival_heard.proofs.Bits.{bits-alike}
@@ -71,7 +72,7 @@ module _ (x : Task) where
 
   -- a call is a fit message of the host of index i
   unfoldable ours : ℕ → Call → Bool
-  ours i (arrival message) = eqb (first (core (x .job) message)) 0 && eqb (index message) i
+  ours i (arrival message minute) = (inWindow (x .job) minute && eqb (first (core (x .job) message)) 0) && eqb (index message) i
   ours i (decoding table) = false
 
   -- m is a fit message of the host of index i among some calls
@@ -92,8 +93,8 @@ module _ (x : Task) where
 
   fit-ours : (s : State) → Good x s → (i : ℕ) (c : Call) → fitFor x s i c ≡ ours i c
   unfolding fit fitFor ours
-  fit-ours s good i (arrival message) =
-      ap (λ (t : Bool). t && eqb (index message) i) (fit-core (x .job) (x .points) (s .heard) (s .store) message (good .planned) (good .room))
+  fit-ours s good i (arrival message minute) =
+      ap (λ (t : Bool). t && eqb (index message) i) (fit-core (x .job) (x .points) (s .heard) (s .store) message minute (good .planned) (good .room))
   fit-ours s good i (decoding table) = refl
 
   among-has : (cs : List Call) (s : State) → Good x s → (i : ℕ) (m : List ℕ) → Among m (fitMessages x s cs i) → Has i m cs

@@ -1,6 +1,7 @@
 -- Retried uploads (02, U1): the promises hold.
 --
 --   written      a fit message is what writing the header of its host's answer and its elements gives
+--   replied, reply-is  what an arrival is told, by its number and by whether its host is heard
 --   reply-new    what a fit arrival is told, where its host is not heard
 --   reply-heard  what it is told where its host is heard: what is stored for the host decides
 --   retried      the promises hold
@@ -62,31 +63,32 @@ module _ (x : Task) (message : List ℕ) (made : AllBelow 256 message) (clear : 
 
 -- ---- what a fit arrival is told
 
-module _ (x : Task) (s : State) (good : Good x s) (message : List ℕ) (f : fit x s message ≡ true) where
-  -- what the number n tells, of a host that is heard or not
-  replied : ℕ → Bool → Reply
-  replied n h =
-      let r = arrived-by (s .heard) message n h in
-      record { number = numberOf r; already = alreadyIn r; table = [] }
+-- what the number n tells, of a host that is heard or not
+unfoldable pub replied : State → List ℕ → ℕ → Bool → Reply
+replied s message n h =
+    let r = arrived-by (s .heard) message n h in
+    record { number = numberOf r; already = alreadyIn r; table = [] }
 
-  reply-is : {n : ℕ} {h : Bool} → number x s message ≡ n → isHeard (s .heard) (index message) ≡ h → reply x s (arrival message) ≡ replied n h
-  unfolding reply arrives arrived entered number replied
-  reply-is e h = ap₂ replied e h
+pub reply-is : (x : Task) (s : State) (message : List ℕ) (minute : ℕ) {n : ℕ} {h : Bool} → number x s message minute ≡ n
+    → isHeard (s .heard) (index message) ≡ h → reply x s (arrival message minute) ≡ replied s message n h
+unfolding reply arrives arrived entered number replied
+reply-is x s message minute e h = ap₂ (replied s message) e h
 
-  reply-new : isHeard (s .heard) (index message) ≡ false → reply x s (arrival message) ≡ taken
+module _ (x : Task) (s : State) (good : Good x s) (message : List ℕ) (minute : ℕ) (f : fit x s message minute ≡ true) where
+  reply-new : isHeard (s .heard) (index message) ≡ false → reply x s (arrival message minute) ≡ taken
   unfolding replied outcome taken
-  reply-new h = reply-is (number-fit x s good message f h refl ∙ first-miss false 23 [] refl ∙ first-none) h
+  reply-new h = reply-is x s message minute (number-fit x s good message minute f h refl ∙ first-miss false 23 [] refl ∙ first-none) h
 
   module _ (h : isHeard (s .heard) (index message) ≡ true) where
-    by-repeated : (t : Bool) → repeated (answerLength (x .job)) (s .store) message ≡ t → reply x s (arrival message) ≡ cond t already differing
+    by-repeated : (t : Bool) → repeated (answerLength (x .job)) (s .store) message ≡ t → reply x s (arrival message minute) ≡ cond t already differing
     unfolding replied outcome already differing
-    by-repeated true e = reply-is (number-fit x s good message f h e ∙ first-miss false 23 [] refl ∙ first-none) h
-    by-repeated false e = reply-is (number-fit x s good message f h e ∙ first-hit true 23 [] refl) h
+    by-repeated true e = reply-is x s message minute (number-fit x s good message minute f h e ∙ first-miss false 23 [] refl ∙ first-none) h
+    by-repeated false e = reply-is x s message minute (number-fit x s good message minute f h e ∙ first-hit true 23 [] refl) h
 
     reply-heard : AllBelow 256 message → {kept : List ℕ} → stored x s (index message) ≡ kept
-        → reply x s (arrival message) ≡ cond (same message kept) already differing
+        → reply x s (arrival message minute) ≡ cond (same message kept) already differing
     reply-heard made e =
-        by-repeated _ (repeated-is x message made (passed x s message f) s ∙ ap (λ (l : List ℕ). same message l) e)
+        by-repeated _ (repeated-is x message made (passed x s message minute f) s ∙ ap (λ (l : List ℕ). same message l) e)
 
 -- ---- the first fit message
 
@@ -99,9 +101,9 @@ record First (x : Task) (i : ℕ) (message : List ℕ) : Type 0 where
 module _ (x : Task) (i : ℕ) where
   call-first : (c : Call) (cs : List Call) (s : State) → Bytes (c ∷ cs) → fitFor x s i c ≡ true → First x i (bytes x c)
   unfolding bytes fitFor
-  call-first (arrival message) cs s made f =
-      let own = named x s message i f in
-      record { clear = passed x s message (own .0); at = own .1; made = made [] cs message refl }
+  call-first (arrival message minute) cs s made f =
+      let own = named x s message minute i f in
+      record { clear = passed x s message minute (own .0); at = own .1; made = made [] cs message minute refl }
   call-first (decoding table) cs s made f = absurd (true≢false (sym f))
 
   first-fit : (cs : List Call) (s : State) → Bytes cs → hasFit x s cs i ≡ true → First x i (firstFit x s cs i)
@@ -109,7 +111,7 @@ module _ (x : Task) (i : ℕ) where
   first-fit [] s made e = absurd (true≢false (sym e))
   first-fit (c ∷ cs) s made e =
       go (fitFor x s i c) (call-first c cs s made)
-      (first-fit cs (after x s c) (λ before rest message is. made (c ∷ before) rest message (ap (λ (l : List Call). c ∷ l) is))) e
+      (first-fit cs (after x s c) (λ before rest message minute is. made (c ∷ before) rest message minute (ap (λ (l : List Call). c ∷ l) is))) e
     where
       go : (t : Bool) → (t ≡ true → First x i (bytes x c)) → (hasFit x (after x s c) cs i ≡ true → First x i (firstFit x (after x s c) cs i))
           → (t || hasFit x (after x s c) cs i) ≡ true → First x i (cond t (bytes x c) (firstFit x (after x s c) cs i))
@@ -151,43 +153,43 @@ module _ (x : Task) (store : List ℕ) where
       ∙ ap (λ (k : ℕ). messageOf (answerHeader x (suc k)) (elements m)) (sym (own .at))
       ∙ sym (written x m (own .made) (own .clear))
 
-  told : (before : List Call) (message : List ℕ) → Bytes before → AllBelow 256 message → fit x (run x (begin store) before) message ≡ true
+  told : (before : List Call) (message : List ℕ) (minute : ℕ) → Bytes before → AllBelow 256 message → fit x (run x (begin store) before) message minute ≡ true
       → let i = index message in
-      reply x (run x (begin store) before) (arrival message)
+      reply x (run x (begin store) before) (arrival message minute)
       ≡ cond (hasFit x (begin store) before i) (cond (same message (firstFit x (begin store) before i)) already differing) taken
-  told before message bytes made f =
+  told before message minute bytes made f =
       let i = index message in
       let here = run x (begin store) before in
       let begun : Good x (begin store)
       = ⊎-elim (λ good. good)
-      (λ still. fit-good x (begin store) message (subst (λ (s : State). fit x s message ≡ true) (run-still x (begin store) still before) f) none-above)
+      (λ still. fit-good x (begin store) message minute (subst (λ (s : State). fit x s message minute ≡ true) (run-still x (begin store) still before) f) none-above)
       (good-or-still x (begin store)) in
       let good = ran x before (begin store) begun .good in
       let is : Bool → Reply = λ t. cond t (cond (same message (firstFit x (begin store) before i)) already differing) taken in
       ⊎-elim
       (λ (t : hasFit x (begin store) before i ≡ true).
-      reply-heard x here good message f (heard-is x store begun before i ∙ t) made (first-kept before bytes i t) ∙ sym (ap is t))
+      reply-heard x here good message minute f (heard-is x store begun before i ∙ t) made (first-kept before bytes i t) ∙ sym (ap is t))
       (λ (e : hasFit x (begin store) before i ≡ false).
-      reply-new x here good message f (heard-is x store begun before i ∙ e) ∙ sym (ap is e))
+      reply-new x here good message minute f (heard-is x store begun before i ∙ e) ∙ sym (ap is e))
       (by-test (hasFit x (begin store) before i))
 
 pub retried : RetriedUploads
 retried x = record {
-  again = λ s none message made f h.
-      let good = fit-good x s message f none in
+  again = λ s none message minute made f h.
+      let good = fit-good x s message minute f none in
       let kept = stored x s (index message) in
-      let told : reply x s (arrival message) ≡ cond (same message kept) already differing = reply-heard x s good message f h made refl in
+      let told : reply x s (arrival message minute) ≡ cond (same message kept) already differing = reply-heard x s good message minute f h made refl in
       let by : Bool → Reply = λ t. cond t already differing in (
         (λ e. told ∙ ap by (ap (λ (l : List ℕ). same message l) (sym e) ∙ same-refl message)),
         (λ ne.
             ⊎-elim (λ (t : same message kept ≡ true). absurd (ne (same-eq message kept t))) (λ (e : same message kept ≡ false). told ∙ ap by e)
             (by-test (same message kept))),
-        after-again x s message h,
+        after-again x s message minute h,
       );
   holds = holds x;
   first-kept = first-kept x;
-  told = λ store before rest message bytes made f.
-      replies-at x before rest (arrival message) (begin store) ∙ told x store before message bytes made f;
+  told = λ store before rest message minute bytes made f.
+      replies-at x before rest (arrival message minute) (begin store) ∙ told x store before message minute bytes made f;
   any-order = λ s cs ds shuffled agree. any-order x s cs ds agree shuffled;
   table = λ s cs ds shuffled agree table.
       replies-at x ds [] (decoding table) s

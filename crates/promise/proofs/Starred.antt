@@ -15,7 +15,7 @@ use Rattle.refusal.specs.Limits.{anyOutside, sizesOutside, overBlock}
 use Rattle.field.specs.Modulus.{moduli, modulus, noModulus, named}
 use Rattle.layout.specs.Exponents.{exponents, layout1, layout2, layout3, strideD, strideE, better, choice, term}
 use Rattle.plan.specs.Planning.{parameters, prime, modulusOf, blockRows, blockInner, blockColumns, layoutOf, neededOf, planOf}
-use Rattle.plan.specs.Planning.{rangeTests, fitTests, member, pointTestsAt, allPointTests, pointTests, planTests, planned}
+use Rattle.plan.specs.Planning.{rangeTests, windowTest, fitTests, member, pointTestsAt, allPointTests, pointTests, planTests, planned}
 use Rattle.product.specs.Product.{productEntry, productOf, productTests, productAfter}
 use Rattle.share_side.specs.Sides.{side, blockLength, matrixLength, maskLength, matrixTests}
 use Rattle.share.specs.Sharing.{blockEntry, maskEntry, shareEntry, shareOf, point, hostShare, shareTests, shareAfter}
@@ -42,7 +42,7 @@ all-right (l ∷ ls) e (suc i) h = all-right ls (and-eq-true-iff (same (l .0) (l
 
 -- the planning definitions, opened to compute
 computed : right starred ≡ true
-unfolding right same starred plan thresholds smallest jobWith tab first outcome unlessRefused outside anyOutside sizesOutside overBlock moduli modulus noModulus named exponents layout1 layout2 layout3 strideD strideE better choice parameters prime modulusOf blockRows blockInner blockColumns layoutOf neededOf planOf rangeTests fitTests member pointTestsAt allPointTests pointTests planTests planned sum grid entry allBelow term productEntry productOf productTests productAfter side blockEntry maskEntry shareEntry shareOf point hostShare blockLength matrixLength maskLength matrixTests shareTests shareAfter share Starred·answer decoded signs reading stack members basis scale add addRoot coefficient inverse last ones onesIn isHeard someAbove lowest answerLength storeLength blockAt answerEntry chosen tableEntry blocks tableOf tableLength heardBelow tableTests decodeTests tableAfter half signed signedTests signedOutcome signedTold
+unfolding right same starred plan thresholds smallest jobWith tab first outcome unlessRefused outside anyOutside sizesOutside overBlock moduli modulus noModulus named exponents layout1 layout2 layout3 strideD strideE better choice parameters prime modulusOf blockRows blockInner blockColumns layoutOf neededOf planOf rangeTests windowTest fitTests member pointTestsAt allPointTests pointTests planTests planned sum grid entry allBelow term productEntry productOf productTests productAfter side blockEntry maskEntry shareEntry shareOf point hostShare blockLength matrixLength maskLength matrixTests shareTests shareAfter share Starred·answer decoded signs reading stack members basis scale add addRoot coefficient inverse last ones onesIn isHeard someAbove lowest answerLength storeLength blockAt answerEntry chosen tableEntry blocks tableOf tableLength heardBelow tableTests decodeTests tableAfter half signed signedTests signedOutcome signedTold
 computed = refl
 
 pub starred-right : Right starred

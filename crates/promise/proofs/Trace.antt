@@ -100,7 +100,7 @@ module _ (x : Task) (s : State) where
   has-good cs i none-above has = ⊎-elim (λ good. good) (λ same. go same cs has) (good-or-still x s)
     where
       own : (c : Call) → fitFor x s i c ≡ true → Good x s
-      own (arrival message) f = fit-good x s message (named x s message i f .0) none-above
+      own (arrival message minute) f = fit-good x s message minute (named x s message minute i f .0) none-above
       own (decoding table) f = absurd (true≢false (sym f))
 
       go : ((c : Call) → after x s c ≡ s) → (cs : List Call) → hasFit x s cs i ≡ true → Good x s

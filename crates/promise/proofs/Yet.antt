@@ -1,6 +1,6 @@
 -- Demand 3 from "Yet" on: every list of arrivals and decodings.
 --
---   true-fit       a true product's bytes are a fit message of its host
+--   true-fit       a true product's bytes are a fit message of its host inside the window
 --   heard-below    blocks of elements below q pass the test of decoding
 --   decode-number  a decoding in a good state is refused where too few are heard, and by no other number
 --   yet            the claim about a whole list
@@ -23,7 +23,7 @@ use Rattle.algebra.proofs.Lists.{below-test}
 use Rattle.algebra.proofs.Tests.{by-test, alike}
 use Rattle.refusal.specs.Chain.{Test, first}
 use Rattle.refusal.proofs.Chains.{first-none, first-miss, first-clear, first-append, unless-done}
-use Rattle.plan.specs.Planning.{prime, blockRows, blockColumns, neededOf}
+use Rattle.plan.specs.Planning.{prime, blockRows, blockColumns, neededOf, inWindow}
 use Rattle.plan.proofs.Then.{then-own}
 use Rattle.message_header.specs.declared.Header.{Header}
 use Rattle.message_header.specs.Header.{headerOf}
@@ -75,11 +75,19 @@ module _ (x : Task) (ok : Accepted x) (ma mb : List ℕ) (i : ℕ) (low : i < x 
       ∙ first-miss _ 12 _ (ap (λ (h : Header). ltb (job .hosts) (h .host)) header-is ∙ le-ltb (job .hosts) (suc i) (omega arith))
       ∙ first-none
 
-  pub true-fit : (s : State) → length (s .store) ≡ storeLength (x .job) → fitFor x s i (arrival (trueProduct x (suc i) ma mb)) ≡ true
+  pub true-fit : (s : State) → length (s .store) ≡ storeLength (x .job) → (minute : ℕ)
+      → fitFor x s i (arrival (trueProduct x (suc i) ma mb) minute) ≡ inWindow (x .job) minute
   unfolding fitFor fit hostIndex message answerHeader headerFor
-  true-fit s room =
-      ap₂ _&&_ (fit-core (x .job) (x .points) (s .heard) (s .store) message (ok .planned) room ∙ eq-eqb (first (core (x .job) message)) 0 core-clear)
+  true-fit s room minute =
+      ap₂ _&&_
+      (fit-core (x .job) (x .points) (s .heard) (s .store) message minute (ok .planned) room
+      ∙ ap (λ (t : Bool). inWindow (x .job) minute && t) (eq-eqb (first (core (x .job) message)) 0 core-clear))
       (eq-eqb (headerOf message .host - 1) i (ap (λ (h : Header). h .host - 1) header-is ∙ (let e : suc i - 1 ≡ i = omega arith in e)))
+      ∙ alone (inWindow (x .job) minute)
+    where
+      alone : (t : Bool) → ((t && true) && true) ≡ t
+      alone true = refl
+      alone false = refl
 
 pub heard-below : (q size heard : ℕ) (store : List ℕ) (n : ℕ)
     → ((i : ℕ) → i < n → isHeard heard i ≡ true → AllBelow q (blockAt size store i)) → heardBelow q size heard store n ≡ true

@@ -3,7 +3,7 @@
 -- number that fits it in the sheet's order, and no element of any lent buffer changes."
 -- It is said of the definitions that the calls' contracts cite; a call returns its number, and 0 means carried out. "A garden heard
 -- a second time" gets 23 where its message differs from the first, and is "already in" where it does not (02, U1). A drawing of masks
--- (02, U3) and a page (02, U6) are calls like the others.
+-- (02, U3) and a page (02, U6) are calls like the others. An arrival carries its minute (02, U7).
 --
 --   test tests i              == the test at i
 --   Judged tests n            == n is 0 exactly where no test holds; otherwise it is the number of the first that does
@@ -80,9 +80,9 @@ pub record Demand1 : Type 0 where
       Tells tests t (fields (headerOf message))
       × Obeys tests (t .number) (readInto message out) (elements message ++ drop (elementCount (headerOf message)) out) out
   -- an arrival writes its own block and sets its own bit; where it is in already, it changes nothing
-  pub arrival : (job : Job) (points : List ℕ) (heard : ℕ) (store message : List ℕ)
-      → let r = arrived job points heard store message in let index = hostIndex (headerOf message) in
-      Obeys (arrivalTests job points heard store message) (numberOf r) (storeAfter job points heard store message)
+  pub arrival : (job : Job) (points : List ℕ) (heard : ℕ) (store message : List ℕ) (minute : ℕ)
+      → let r = arrived job points heard store message minute in let index = hostIndex (headerOf message) in
+      Obeys (arrivalTests job points heard store message minute) (numberOf r) (storeAfter job points heard store message minute)
       (cond (alreadyIn r) store (withBlock (answerLength job) store index (elements message))) store
       × (numberOf r ≡ 0 → heardAfter heard r ≡ cond (alreadyIn r) heard (withHost heard index))
       × ((numberOf r ≡ 0 → ⊥) → heardAfter heard r ≡ heard)

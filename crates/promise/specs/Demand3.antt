@@ -1,10 +1,10 @@
--- Demand 3 (00), in the words of 01, "Arrivals".
+-- Demand 3 (00), in the words of 01, "Arrivals", and of 02, U7.
 -- A host's index counts from 0: host i has index i - 1.
 --
---   Task                 == a job: its public numbers, its points and its matrices
---   publicNumbers x      == the numbers that a host may know
+--   Task                 == a job: its public numbers, its window, its points and its matrices
+--   publicNumbers x      == the numbers that a host may know: the window is none of them
 --   Accepted x           == the job is accepted
---   SamePublic x y       == two jobs with the same public numbers and points
+--   SamePublic x y       == two jobs with the same public numbers and points; their windows may differ
 --   Masks m x ms         == ms are masks for matrix m
 --   largest m x          == X_A or X_B: the size of the largest group kept ignorant of matrix m
 --   shareFor m x i ms    == host i's share of matrix m
@@ -33,7 +33,7 @@ use Rattle.algebra.specs.Lists.{AllBelow}
 use Rattle.algebra.specs.Sets.{size}
 use Rattle.refusal.specs.Chain.{first, except, done}
 use Rattle.plan.specs.declared.Job.{Job}
-use Rattle.plan.specs.Planning.{prime, blockRows, blockInner, blockColumns, neededOf, planTests, planned, told, planValues}
+use Rattle.plan.specs.Planning.{prime, blockRows, blockInner, blockColumns, neededOf, inWindow, planTests, planned, told, planValues}
 use Rattle.share_side.specs.declared.Matrix.{Matrix}
 use Rattle.share_side.specs.declared.Matrix.the-variants.{A, B}
 use Rattle.share_side.specs.Sides.{side, maskLength, blockLength}
@@ -139,9 +139,9 @@ Privacy =
     (m : Matrix) (x y : Task) → Accepted x → Accepted y → SamePublic x y → (g : ℕ → Bool) → size g (x .job .hosts) ≤ largest m x
     → Hidden m x y g
 
--- an arrival with its bytes, or a decoding with its table as it stood before
+-- an arrival with its bytes and its minute, or a decoding with its table as it stood before
 pub data Call : Type 0 where
-  arrival : List ℕ → Call
+  arrival : List ℕ → ℕ → Call
   decoding : List ℕ → Call
 
 pub record State : Type 0 where
@@ -160,19 +160,20 @@ unanswered = record { number = 99; already = false; table = [] }
 
 module _ (x : Task) where
   -- what an arrival returns
-  unfoldable pub arrives : State → List ℕ → Arrived
-  arrives s message = arrived (x .job) (x .points) (s .heard) (s .store) message
+  unfoldable pub arrives : State → List ℕ → ℕ → Arrived
+  arrives s message minute = arrived (x .job) (x .points) (s .heard) (s .store) message minute
 
   -- "Each later one takes the hosts heard and the store as the one before left them, a refused one too; nobody writes in the
   -- store between, and a decoding changes neither."
   unfoldable pub after : State → Call → State
-  after s (arrival message) =
-      let store = storeAfter (x .job) (x .points) (s .heard) (s .store) message in
-      record { heard = heardAfter (s .heard) (arrives s message); store = store }
+  after s (arrival message minute) =
+      let store = storeAfter (x .job) (x .points) (s .heard) (s .store) message minute in
+      record { heard = heardAfter (s .heard) (arrives s message minute); store = store }
   after s (decoding table) = s
 
   unfoldable pub reply : State → Call → Reply
-  reply s (arrival message) = record { number = numberOf (arrives s message); already = alreadyIn (arrives s message); table = [] }
+  reply s (arrival message minute) =
+      let r = arrives s message minute in record { number = numberOf r; already = alreadyIn r; table = [] }
   reply s (decoding table) =
       let number = first (decodeTests (x .job) (x .points) (s .heard) (s .store) (length table)) in
       record { number = number; already = false; table = tableAfter (x .job) (x .points) (s .heard) (s .store) table }
@@ -185,13 +186,15 @@ module _ (x : Task) where
   replies s [] = []
   replies s (c ∷ cs) = reply s c ∷ replies (after s c) cs
 
-  -- "An arrival is fit when, 21 and 23 aside, no refusal number for arrivals fits it"
-  unfoldable pub fit : State → List ℕ → Bool
-  fit s message = eqb (first (except 21 (except 23 (arrivalTests (x .job) (x .points) (s .heard) (s .store) message)))) 0
+  -- "An arrival is fit when, 21 and 23 aside, no refusal number for arrivals fits it"; 30 is one of them, so "the promise on K
+  -- gardens now reads: K that arrived inside the window" (02, U7)
+  unfoldable pub fit : State → List ℕ → ℕ → Bool
+  fit s message minute =
+      eqb (first (except 21 (except 23 (arrivalTests (x .job) (x .points) (s .heard) (s .store) message minute)))) 0
 
   -- "its message is then a fit message of the host it names"
   unfoldable pub fitFor : State → ℕ → Call → Bool
-  fitFor s i (arrival message) = fit s message && eqb (hostIndex (headerOf message)) i
+  fitFor s i (arrival message minute) = fit s message minute && eqb (hostIndex (headerOf message)) i
   fitFor s i (decoding table) = false
 
   unfoldable pub hasFit : State → List Call → ℕ → Bool
@@ -199,7 +202,7 @@ module _ (x : Task) where
   hasFit s (c ∷ cs) i = fitFor s i c || hasFit (after s c) cs i
 
   unfoldable pub bytes : Call → List ℕ
-  bytes (arrival message) = message
+  bytes (arrival message minute) = message
   bytes (decoding table) = []
 
   -- "A host's first is that of the earliest such arrival in the list."
@@ -257,9 +260,9 @@ pub record Demand3 : Type 0 where
   -- included, from no garden heard and whatever the store held: .."
   pub yet : (x : Task) → Accepted x → (ma mb : List ℕ) → Masks A x ma → Masks B x mb → (store : List ℕ)
       → length store ≡ storeLength (x .job) → (calls : List Call) → Trace x ma mb store calls
-  -- "A true product's bytes never make an arrival unfit."
+  -- "A true product's bytes never make an arrival unfit."; its minute does, outside the window
   pub true-fit : (x : Task) → Accepted x → (ma mb : List ℕ) → Masks A x ma → Masks B x mb → (s : State)
-      → length (s .store) ≡ storeLength (x .job) → (i : ℕ) → i < x .job .hosts
-      → fitFor x s i (arrival (trueProduct x (suc i) ma mb)) ≡ true
+      → length (s .store) ≡ storeLength (x .job) → (i minute : ℕ) → i < x .job .hosts
+      → fitFor x s i (arrival (trueProduct x (suc i) ma mb) minute) ≡ inWindow (x .job) minute
   pub made : (x : Task) → Accepted x → (ma mb : List ℕ) → Masks A x ma → Masks B x mb → (i : ℕ) → i < x .job .hosts
       → Made x (suc i) ma mb

@@ -6,5 +6,6 @@ pub mod Demand2
 pub mod Demand3
 pub mod Layouts
 pub mod Retried
+pub mod Windows
 pub mod DrawnMasks
 pub mod WholeNumbers

@@ -32,7 +32,8 @@ unfoldable pub stored : Task → State → ℕ → List ℕ
 stored x s i = messageOf (answerHeader x (suc i)) (blockAt (answerLength (x .job)) (s .store) i)
 
 abbrev pub Bytes : List Call → Type 0
-Bytes cs = (before rest : List Call) (message : List ℕ) → cs ≡ before ++ (arrival message ∷ rest) → AllBelow 256 message
+Bytes cs =
+    (before rest : List Call) (message : List ℕ) (minute : ℕ) → cs ≡ before ++ (arrival message minute ∷ rest) → AllBelow 256 message
 
 module _ (x : Task) where
   unfoldable pub fitMessages : State → List Call → ℕ → List (List ℕ)
@@ -64,11 +65,11 @@ pub record Retried (x : Task) : Type 0 where
   -- "An arrival of a host already heard, whose message equals, byte for byte, what is stored for that host, now answers
   -- "already in" and changes nothing. A differing second message still gets 23": in any state, also one come by otherwise, where
   -- 21 does not fit
-  pub again : (s : State) → s .heard < 2 ^ x .job .hosts → (message : List ℕ) → AllBelow 256 message
-      → fit x s message ≡ true → isHeard (s .heard) (index message) ≡ true
-      → (message ≡ stored x s (index message) → reply x s (arrival message) ≡ already)
-      × ((message ≡ stored x s (index message) → ⊥) → reply x s (arrival message) ≡ differing)
-      × (after x s (arrival message) ≡ s)
+  pub again : (s : State) → s .heard < 2 ^ x .job .hosts → (message : List ℕ) (minute : ℕ) → AllBelow 256 message
+      → fit x s message minute ≡ true → isHeard (s .heard) (index message) ≡ true
+      → (message ≡ stored x s (index message) → reply x s (arrival message minute) ≡ already)
+      × ((message ≡ stored x s (index message) → ⊥) → reply x s (arrival message minute) ≡ differing)
+      × (after x s (arrival message minute) ≡ s)
   -- "and the first stays stored": a host's block after any list of calls; without a fit message, what it was at first
   pub holds : (store : List ℕ) (cs : List Call) (i : ℕ)
       → blockAt (answerLength (x .job)) (run x (begin store) cs .store) i
@@ -78,9 +79,9 @@ pub record Retried (x : Task) : Type 0 where
       → stored x (run x (begin store) cs) i ≡ firstFit x (begin store) cs i
   -- "now answers "already in" .. A differing second message still gets 23": what a fit message is told, wherever it stands in a
   -- list of calls, by its host's first
-  pub told : (store : List ℕ) (before rest : List Call) (message : List ℕ) → Bytes before → AllBelow 256 message
-      → fit x (run x (begin store) before) message ≡ true
-      → getD (replies x (begin store) (before ++ (arrival message ∷ rest))) (length before) unanswered
+  pub told : (store : List ℕ) (before rest : List Call) (message : List ℕ) (minute : ℕ) → Bytes before → AllBelow 256 message
+      → fit x (run x (begin store) before) message minute ≡ true
+      → getD (replies x (begin store) (before ++ (arrival message minute ∷ rest))) (length before) unanswered
       ≡ cond (hasFit x (begin store) before (index message))
       (cond (same message (firstFit x (begin store) before (index message))) already differing)
       taken

@@ -43,7 +43,7 @@ thresholds job = let k : Layout → ℕ = λ l. exponents l (parameters job) .ne
 
 -- q 13, all sizes and both X 1
 unfoldable pub smallest : Job
-smallest = record { modulus = 1; t = 1; s = 1; r = 1; m = 1; p = 1; n = 1; xa = 1; xb = 1; hosts = 3; number = 0 }
+smallest = record { modulus = 1; t = 1; s = 1; r = 1; m = 1; p = 1; n = 1; xa = 1; xb = 1; hosts = 3; number = 0; opening = 0; closing = 1 }
 
 unfoldable pub share : Matrix → ℕ → ℕ → ℕ → List ℕ
 share m x y host = shareAfter m smallest (tab suc 3) host (x ∷ []) (y ∷ []) (99 ∷ [])
@@ -66,7 +66,7 @@ reading r = let t = signedTold r in t .number ∷ signs (t .values)
 
 unfoldable pub jobWith : ℕ → ℕ → ℕ → ℕ → ℕ → ℕ → Job
 jobWith p m n xa xb hosts =
-    record { modulus = 2; t = m; s = p; r = n; m = m; p = p; n = n; xa = xa; xb = xb; hosts = hosts; number = 0 }
+    record { modulus = 2; t = m; s = p; r = n; m = m; p = p; n = n; xa = xa; xb = xb; hosts = hosts; number = 0; opening = 0; closing = 1 }
 
 unfoldable pub starred : List Line
 starred =

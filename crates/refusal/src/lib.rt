@@ -62,6 +62,10 @@ pub const WORDS: u32 = 27;
 
 pub const PAGE: u32 = 28;
 
+pub const WINDOW: u32 = 29;
+
+pub const OUTSIDE_WINDOW: u32 = 30;
+
 // The largest numbers that several calls test (01, "The job"): a size, the elements of a block, and the hosts.
 pub const MOST_SIZE: u32 = 16384;
 

@@ -63,7 +63,7 @@ returns c =
     let p = c .before .before .before .before in
     let a = start p .args in
     let told = c .before .state-refusal in
-    by-state (a .job) (a .points .now) (a .heard) (a .store .now) (a .message .now) (accepted p .0) (told .result) (c .if1 .taken) (sym (told .ensures))
+    by-state (a .job) (a .points .now) (a .heard) (a .store .now) (a .message .now) (a .minute) (accepted p .0) (told .result) (c .if1 .taken) (sym (told .ensures))
 
 -- the hosts heard and the store have passed
 state-clear : (e : tie.Else1) → first (stateTests (start (e .before .before .before .before) .args .job) (start (e .before .before .before .before) .args .heard) (length (start (e .before .before .before .before) .args .store .now))) ≡ 0
@@ -79,7 +79,7 @@ returns-2 : tie.Need-returns-2
 returns-2 c =
     let p = c .before in
     let a = p .before .before .before .before .before .before .args in
-    by-plan (a .job) (a .points .now) (a .heard) (a .store .now) (a .message .now) (sym (p .before .before .plan-job .ensures) ∙ p .planned .given .1)
+    by-plan (a .job) (a .points .now) (a .heard) (a .store .now) (a .message .now) (a .minute) (sym (p .before .before .plan-job .ensures) ∙ p .planned .given .1)
 
 same-length : tie.Need-same-length
 same-length c = search needs
@@ -88,7 +88,7 @@ returns-3 : tie.Need-returns-3
 returns-3 c =
     let t = c .before .before in
     let e = t .before .before in
-    let on = passed-on _ _ _ _ _ (accepted (e .before .before .before .before) .0) (state-clear e) in
+    let on = passed-on _ _ _ _ _ _ (accepted (e .before .before .before .before) .0) (state-clear e) in
     (t .take-message .ensures .0 ∙ on .0, t .take-message .ensures .1 ∙ on .1)
 
 pub arrive-spec : {M : Type 1} → statement M

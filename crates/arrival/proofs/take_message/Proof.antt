@@ -2,9 +2,11 @@
 use mathlib.Core.Path.{_≡_, sym, ap, ap₂, _∙_}
 use mathlib.Core.Bool.{false, cond}
 use Prim.Native.Nat.{ℕ, _+_, _-_, _*_, _^_, _%_, _<_, _≤_}
+use native.Mathlib.Nat.{suc-ne-zero}
 use native.Mathlib.Omega.{arith}
 use lib.ListN.{length}
 use borrow.Author.Needs.{needs}
+use borrow.Author.Tests.{not-true, not-false}
 use Rattle.algebra.proofs.Orders.{row-end}
 use Rattle.refusal.specs.Chain.{first}
 use Rattle.message_header.specs.declared.Header.{Header}
@@ -18,7 +20,7 @@ use Rattle.arrival_heard.proofs.Bits.{bit-of, with-below}
 use Rattle.arrival.specs.declared.Arrived.the-variants.{AlreadyIn, Refused}
 use Rattle.arrival.specs.Arriving.{answerLength, storeLength, withBlock, hostIndex, repeated, answerTests, againTests}
 use Rattle.arrival.specs.Contracts.{receivedTests}
-use Rattle.arrival.proofs.Outcomes.{Passed, passed, index-below, refused, taken, again, told-message, told-answer, told-again}
+use Rattle.arrival.proofs.Outcomes.{Passed, passed, index-below, refused, taken, again, told-message, told-answer, told-minute, told-again}
 use Rattle.arrival.proofs.take_message.Statement.{statement}
 use Rattle.arrival.proofs.take_message.Tie as tie
 
@@ -70,27 +72,44 @@ answer-told o =
 returns : tie.Need-returns
 returns c =
     let o = c .before in
-    refused _ _ _ _ _ (c .if1 .taken) (told-answer _ _ _ _ (read (o .before .before) .0) _ (c .if1 .taken) (answer-told o))
+    refused _ _ _ _ _ _ (c .if1 .taken) (told-answer _ _ _ _ _ (read (o .before .before) .0) _ (c .if1 .taken) (answer-told o))
+
+-- ---- its minute
+
+-- 22 and 12 have passed
+answer-clear : (e : tie.Else1) → first (answerTests (begin (e .before .before .before) .args .job) (headerOf (begin (e .before .before .before) .args .message .now))) ≡ 0
+answer-clear e = answer-told (e .before) ∙ e .if1 .left
+
+in-window-requires : tie.Need-in-window-requires
+in-window-requires c κs = search needs
+
+returns-2 : tie.Need-returns-2
+returns-2 c =
+    let e = c .before .before in
+    let outside = sym (c .before .in-window .ensures) ∙ not-true _ (c .if2 .taken) in
+    refused _ _ _ _ _ 30 (suc-ne-zero 29) (told-minute _ _ _ _ _ (read (e .before .before .before) .0) (answer-clear e) outside)
 
 -- ---- the message is fit
 
 -- where the tests have passed, and what they tell
-abbrev parsed-of : tie.Else1 → tie.After-parsed2
-parsed-of e = e .before .before .before
+abbrev parsed-of : tie.Else2 → tie.After-parsed2
+parsed-of e = e .before .before .before .before .before
 
-all-passed : (e : tie.Else1) → Passed (begin (parsed-of e) .args .job) (begin (parsed-of e) .args .message .now)
-all-passed e = passed _ _ (read (parsed-of e) .0) (answer-told (e .before) ∙ e .if1 .left)
+all-passed : (e : tie.Else2) → Passed (begin (parsed-of e) .args .job) (begin (parsed-of e) .args .message .now)
+all-passed e = passed _ _ (read (parsed-of e) .0) (answer-clear (e .before .before))
 
 -- 23 decides
-last : (e : tie.Else1) → first (receivedTests (begin (parsed-of e) .args .job) (begin (parsed-of e) .args .heard) (begin (parsed-of e) .args .store .now) (begin (parsed-of e) .args .message .now))
+last : (e : tie.Else2) → first (receivedTests (begin (parsed-of e) .args .job) (begin (parsed-of e) .args .heard) (begin (parsed-of e) .args .store .now) (begin (parsed-of e) .args .message .now) (begin (parsed-of e) .args .minute))
     ≡ first (againTests (answerLength (begin (parsed-of e) .args .job)) (begin (parsed-of e) .args .heard) (begin (parsed-of e) .args .store .now) (begin (parsed-of e) .args .message .now))
-last e = told-again _ _ _ _ (read (parsed-of e) .0) (answer-told (e .before) ∙ e .if1 .left)
+last e =
+    told-again _ _ _ _ _ (read (parsed-of e) .0) (answer-clear (e .before .before))
+    (sym (e .before .in-window .ensures) ∙ not-false _ (e .if2 .left))
 
 -- the index is one of the job's, and so one of 64
-below : (e : tie.Else1) → parsed-of e .parsed2 .given .0 .0 .host - 1 < begin (parsed-of e) .args .job .hosts
+below : (e : tie.Else2) → parsed-of e .parsed2 .given .0 .0 .host - 1 < begin (parsed-of e) .args .job .hosts
 below e = omega (arith, index-is (parsed-of e), index-below _ _ (all-passed e))
 
-inside : (e : tie.Else1) → parsed-of e .parsed2 .given .0 .0 .host - 1 < 64
+inside : (e : tie.Else2) → parsed-of e .parsed2 .given .0 .0 .host - 1 < 64
 inside e = omega (arith, below e, begin (parsed-of e) .pre .3)
 
 sub-index : tie.Need-sub-index
@@ -102,11 +121,11 @@ mul-size c = let small = begin (parsed-of (c .before)) .pre .2 in omega (arith, 
 cast-size : tie.Need-cast-size
 cast-size c = search needs
 
-whole : (e : tie.Else1) → length (begin (parsed-of e) .args .message .now) ≡ 16 + 4 * (begin (parsed-of e) .args .rows * begin (parsed-of e) .args .columns)
+whole : (e : tie.Else2) → length (begin (parsed-of e) .args .message .now) ≡ 16 + 4 * (begin (parsed-of e) .args .rows * begin (parsed-of e) .args .columns)
 whole e = omega (arith, all-passed e .whole, size-is (begin (parsed-of e)))
 
 -- the host's block is one of the store
-lies : (e : tie.Else1) → (parsed-of e .parsed2 .given .0 .0 .host - 1) * (begin (parsed-of e) .args .rows * begin (parsed-of e) .args .columns) + begin (parsed-of e) .args .rows * begin (parsed-of e) .args .columns
+lies : (e : tie.Else2) → (parsed-of e .parsed2 .given .0 .0 .host - 1) * (begin (parsed-of e) .args .rows * begin (parsed-of e) .args .columns) + begin (parsed-of e) .args .rows * begin (parsed-of e) .args .columns
     ≤ length (begin (parsed-of e) .args .store .now)
 unfolding storeLength
 lies e =
@@ -131,13 +150,13 @@ heard-again-requires c κs = let e = c .before .before .before .before in (index
 same-length : tie.Need-same-length
 same-length c = search needs
 
-returns-2 : tie.Need-returns-2
-returns-2 c =
+returns-3 : tie.Need-returns-3
+returns-3 c =
     let t = c .before .before in
     let e = t .before .before .before in
     let s = begin (parsed-of e) in
     let a = s .args in
-    again _ _ _ _ (last e) (sym (heard-told (t .before)) ∙ t .if2 .taken)
+    again _ _ _ _ _ (last e) (sym (heard-told (t .before)) ∙ t .if3 .taken)
     (c .heard-again .ensures ∙ ap (λ (n : ℕ). cond (repeated n (a .store .now) (a .message .now)) AlreadyIn (Refused 23)) (size-is s))
 
 -- ---- its host is not heard: it is taken
@@ -154,14 +173,14 @@ cast-bit : tie.Need-cast-bit
 cast-bit c = search needs
 
 -- where the tests had passed
-abbrev clear : tie.After-slice-known2 → tie.Else1
+abbrev clear : tie.After-slice-known2 → tie.Else2
 clear c = c .before .before .before .before .before .before .before
 
-new : (h : tie.Else2) → isHeard (begin (parsed-of (h .before .before .before)) .args .heard) (hostIndex (headerOf (begin (parsed-of (h .before .before .before)) .args .message .now))) ≡ false
-new h = sym (heard-told (h .before)) ∙ h .if2 .left
+new : (h : tie.Else3) → isHeard (begin (parsed-of (h .before .before .before)) .args .heard) (hostIndex (headerOf (begin (parsed-of (h .before .before .before)) .args .message .now))) ≡ false
+new h = sym (heard-told (h .before)) ∙ h .if3 .left
 
 -- the hosts heard then
-bit : (e : tie.Else1) → begin (parsed-of e) .args .heard + 1 * 2 ^ (parsed-of e .parsed2 .given .0 .0 .host - 1) % 2 ^ 64
+bit : (e : tie.Else2) → begin (parsed-of e) .args .heard + 1 * 2 ^ (parsed-of e .parsed2 .given .0 .0 .host - 1) % 2 ^ 64
     ≡ withHost (begin (parsed-of e) .args .heard) (hostIndex (headerOf (begin (parsed-of e) .args .message .now)))
 unfolding withHost
 bit e =
@@ -182,22 +201,22 @@ add-after c =
     let next : withHost (s .args .heard) i < 2 ^ 64 = with-below (s .args .heard) i (new (c .before .before .before .before)) 64 room there in
     omega (arith, bit e, next)
 
-returns-3 : tie.Need-returns-3
+returns-4 : tie.Need-returns-4
 unfolding examined
-returns-3 c =
+returns-4 c =
     let r = c .before in
     let told = refused-told _ _ (sym (r .before .before .examine .ensures) ∙ r .parsed .given .1) in
-    refused _ _ _ _ _ (told .1) (told-message _ _ _ _ _ (told .1) (told .0))
+    refused _ _ _ _ _ _ (told .1) (told-message _ _ _ _ _ _ (told .1) (told .0))
 
 same-length-2 : tie.Need-same-length-2
 same-length-2 c = search needs
 
-returns-4 : tie.Need-returns-4
-returns-4 c =
+returns-5 : tie.Need-returns-5
+returns-5 c =
     let e = clear c in
     let r = parsed-of e in
     let a = begin r .args in
-    taken (a .job) (a .heard) (a .store .now) (a .message .now) (last e) (new (c .before .before .before .before)) (bit e)
+    taken (a .job) (a .heard) (a .store .now) (a .message .now) (a .minute) (last e) (new (c .before .before .before .before)) (bit e)
     (c .before .before .put-block .ensures
     ∙ ap₂ (λ (n i : ℕ). withBlock n (a .store .now) i (elements (a .message .now))) (size-is (begin r)) (index-is r))
 
@@ -210,6 +229,8 @@ take-message-spec =
     enum-known-parsed-2
     answer-refusal-requires
     returns
+    in-window-requires
+    returns-2
     sub-index
     mul-size
     cast-size
@@ -217,12 +238,12 @@ take-message-spec =
     cast-heard-again
     heard-again-requires
     same-length
-    returns-2
+    returns-3
     cast-put-block
     put-block-requires
     cast-bit
     shl-bit
     add-after
-    returns-3
+    returns-4
     same-length-2
-    returns-4)
+    returns-5)

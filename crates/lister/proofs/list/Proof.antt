@@ -3,11 +3,11 @@ use mathlib.Core.Path.{_≡_, sym, ap, _∙_}
 use Prim.Native.Nat.{suc}
 use borrow.Author.Tests.{not-true, not-false}
 use Rattle.algebra.specs.Lists.{tab}
-use Rattle.plan.specs.declared.Job.{Job}
+use Rattle.plan.specs.declared.Table.{Table}
 use Rattle.plan.specs.declared.Planned.{Planned}
-use Rattle.plan.specs.Planning.{planned}
+use Rattle.plan.specs.Planning.{planned, tableJob}
 use Rattle.lister_line.specs.declared.Line.{Line}
-use Rattle.lister.specs.Listing.{jobOf, replyText, listing}
+use Rattle.lister.specs.Listing.{lineTable, replyText, listing}
 use Rattle.lister.proofs.Replies.{listed, malformed, replied}
 use borrow.Author.Needs.{needs}
 use Rattle.lister.proofs.list.Statement.{statement}
@@ -25,8 +25,8 @@ returns c =
     let not-ok = ap (λ (l : Line). l .ok) (sym (c .before .before .before .before .read-line .ensures)) ∙ not-true _ (c .before .before .if1 .taken) in
     listed (e .args .input .now) (malformed (e .args .input .now) not-ok) (c .put-refused .ensures)
 
-job-of-requires : tie.Need-job-of-requires
-job-of-requires c κs = search needs
+line-table-requires : tie.Need-line-table-requires
+line-table-requires c κs = search needs
 
 plan-of-requires : tie.Need-plan-of-requires
 plan-of-requires c κs = search needs
@@ -44,14 +44,14 @@ put-refused-requires-2 : tie.Need-put-refused-requires-2
 put-refused-requires-2 c κs = search needs
 
 -- the text of what planning returns is what is printed
-reply-is : (c : tie.After-plan-of) {outcome : Planned} → c .plan-of .result ≡ outcome → replyText (c .before .job-of .result .hosts) outcome ≡ listing (c .before .before .before .before .before .before .before .args .input .now)
+reply-is : (c : tie.After-plan-of) {outcome : Planned} → c .plan-of .result ≡ outcome → replyText (c .before .line-table .result .hosts) outcome ≡ listing (c .before .before .before .before .before .before .before .args .input .now)
 reply-is c {outcome} is =
     let input = c .before .before .before .before .before .before .before .args .input .now in
     let line = c .before .before .before .before .before .read-line in
     let ok = ap (λ (l : Line). l .ok) (sym (line .ensures)) ∙ not-false _ (c .before .before .before .if1 .left) in
-    let job-is = c .before .job-of .ensures ∙ ap (λ (l : Line). jobOf (l .numbers)) (line .ensures) in
-    ap (λ (j : Job). replyText (j .hosts) outcome) job-is
-    ∙ replied input ok (sym is ∙ c .plan-of .ensures ∙ ap (λ (j : Job). planned j (tab suc (j .hosts))) job-is)
+    let table-is = c .before .line-table .ensures ∙ ap (λ (l : Line). lineTable (l .numbers)) (line .ensures) in
+    ap (λ (t : Table). replyText (t .hosts) outcome) table-is
+    ∙ replied input ok (sym is ∙ c .plan-of .ensures ∙ ap (λ (t : Table). planned (tableJob t) (tab suc (t .hosts))) table-is)
 
 returns-2 : tie.Need-returns-2
 unfolding replyText
@@ -74,7 +74,7 @@ list-spec =
     read-line-requires
     put-refused-requires
     returns
-    job-of-requires
+    line-table-requires
     plan-of-requires
     enum-known-plan
     list-plan-requires

@@ -1,9 +1,9 @@
--- `lister::job_of` meets its contract.
+-- `lister::line_table` meets its contract.
 use mathlib.Core.Path.{refl}
-use Rattle.lister.specs.Listing.{jobOf}
+use Rattle.lister.specs.Listing.{lineTable}
 use borrow.Author.Needs.{needs}
-use Rattle.lister.proofs.job_of.Statement.{statement}
-use Rattle.lister.proofs.job_of.Tie as tie
+use Rattle.lister.proofs.line_table.Statement.{statement}
+use Rattle.lister.proofs.line_table.Tie as tie
 
 array-read-t5 : tie.Need-array-read-t5
 array-read-t5 c = search needs
@@ -36,11 +36,11 @@ array-read-t32 : tie.Need-array-read-t32
 array-read-t32 c = search needs
 
 returns : tie.Need-returns
-unfolding jobOf
+unfolding lineTable
 returns c = refl
 
-pub job-of-spec : {M : Type 1} → statement M
-job-of-spec =
+pub line-table-spec : {M : Type 1} → statement M
+line-table-spec =
     tie.close
     (tie.spec
     array-read-t5
