@@ -21,6 +21,7 @@ REQUESTS = [
     ("promise", "DrawnMasks", "DrawnMasks"),
     ("promise", "WholeNumbers", "DecodedNumbers"),
     ("page", "Reading", "PageTexts"),
+    ("promise", "Windows", "UploadWindows"),
 ]
 # The page is a text, and its definitions are the request line by line: 40 more (docs/DECISIONS.md, "How much must be believed").
 MOST_LINES = 560 + 20 * len(REQUESTS) + 40
@@ -177,7 +178,7 @@ def page():
     text = [
         "# What must be believed",
         "",
-        "The three demands are the records `Demand1`, `Demand2` and `Demand3`; of the requests, U1 is the record `Retried`, U2 `Layouts`, U3 `DrawnMasks` and U4 `DecodedNumbers`",
+        "The three demands are the records `Demand1`, `Demand2` and `Demand3`; of the requests, U1 is the record `Retried`, U2 `Layouts`, U3 `DrawnMasks`, U4 `DecodedNumbers` and U7 `Windowed`",
         "(`crates/promise/specs`), and U6 is `PageTexts` (`crates/page/specs`). Who wants to see that they say what the papers say reads the definitions and the statements below, each file after those that",
         "it uses, and needs nothing else. All else in `specs/` is how the code does it, in files named `Contracts`, or what is promised beside these. Everything",
         "in `proofs/` is checked by the prover.",

@@ -98,7 +98,7 @@ fn whole(work: &Work) -> Room {
 fn spoil(random: &mut Random, work: &mut Work, room: &mut Room) {
     let q = prime(work.job.modulus);
     let message = &mut room.answer_message;
-    match random.index(10) {
+    match random.index(11) {
         0 => spoil_number(random, &mut work.job),
         1 => {
             let at = random.index(work.points.len());
@@ -111,11 +111,18 @@ fn spoil(random: &mut Random, work: &mut Work, room: &mut Room) {
         6 => spoil_list(random, q, &mut room.store),
         7 => spoil_list(random, q, &mut room.shares[0]),
         8 => message.truncate(random.index(message.len())),
+        9 => work.minute = about_the_ends(random, &work.job),
         _ => {
             let at = [random.index(16), random.index(message.len())][random.index(2)];
             message[at] = random.byte() % 8;
         }
     }
+}
+
+/// A minute at an end of a job's window, just inside or just outside, or any minute.
+fn about_the_ends(random: &mut Random, job: &Job) -> u32 {
+    let end = [job.opening, job.closing, random.word()][random.index(3)];
+    end.wrapping_sub(random.within(0, 1))
 }
 
 /// Sets one of a job's numbers anew.
@@ -133,6 +140,8 @@ fn spoil_number(random: &mut Random, job: &mut Job) {
         &mut job.xb,
         &mut job.hosts,
         &mut job.number,
+        &mut job.opening,
+        &mut job.closing,
     ];
     let at = random.index(numbers.len());
     *numbers.into_iter().nth(at).expect("a number") = value;
@@ -185,7 +194,7 @@ fn same_calls(random: &mut Random, work: &Work, room: &Room) {
     });
     let heard = [room.heard, 0][random.index(2)];
     same("arrival", &room.store, |calls, store| {
-        calls.arrive(job, points, heard, store, &room.answer_message)
+        calls.arrive(job, points, heard, store, &room.answer_message, work.minute)
     });
     same("decoding", &room.table, |calls, table| {
         calls.decode(job, points, room.heard, &room.store, table)

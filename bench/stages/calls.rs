@@ -56,6 +56,7 @@ pub trait Calls {
         heard: u64,
         store: &mut [u32],
         message: &[u8],
+        minute: u32,
     ) -> Result<u64, u32>;
 
     fn decode(
@@ -130,8 +131,9 @@ impl Calls for Plain {
         heard: u64,
         store: &mut [u32],
         message: &[u8],
+        minute: u32,
     ) -> Result<u64, u32> {
-        arrive(job, points, heard, store, message)
+        arrive(job, points, heard, store, message, minute)
     }
 
     fn decode(

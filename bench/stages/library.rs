@@ -8,7 +8,7 @@ use plain::share::Matrix;
 /// A job's numbers, as the library takes them.
 #[repr(C)]
 #[derive(Clone, Copy)]
-struct Numbers([u32; 11]);
+struct Numbers([u32; 13]);
 
 /// A message's fields, as the library takes them.
 #[repr(C)]
@@ -46,6 +46,7 @@ extern "C" {
     fn stages_arrive(
         numbers: Numbers, points: *const u32, points_length: usize, heard: *mut u64,
         store: *mut u32, store_length: usize, message: *const u8, message_length: usize,
+        minute: u32,
     ) -> u32;
 
     fn stages_decode(
@@ -78,6 +79,8 @@ fn numbers(job: &Job) -> Numbers {
         job.xb,
         job.hosts,
         job.number,
+        job.opening,
+        job.closing,
     ])
 }
 
@@ -208,6 +211,7 @@ impl Calls for Library {
         heard: u64,
         store: &mut [u32],
         message: &[u8],
+        minute: u32,
     ) -> Result<u64, u32> {
         let mut after = heard;
         let number = unsafe {
@@ -220,6 +224,7 @@ impl Calls for Library {
                 store.len(),
                 message.as_ptr(),
                 message.len(),
+                minute,
             )
         };
         outcome(number).map(|()| after)

@@ -38,10 +38,22 @@ impl Stage {
     }
 }
 
-/// Lets the last host's answer arrive.
+/// Lets the last host's answer arrive in time.
 fn arrive(calls: &impl Calls, work: &Work, heard: u64, room: &mut Room) -> Result<(), u32> {
-    let Work { job, points, .. } = black_box(work);
-    let after = calls.arrive(job, points, heard, &mut room.store, &room.answer_message)?;
+    let Work {
+        job,
+        points,
+        minute,
+        ..
+    } = black_box(work);
+    let after = calls.arrive(
+        job,
+        points,
+        heard,
+        &mut room.store,
+        &room.answer_message,
+        *minute,
+    )?;
     black_box(after);
     Ok(())
 }

@@ -18,7 +18,7 @@ pub struct Shape {
 }
 
 /// A job: its numbers, points and layout, its matrices and masks, the hosts that answer, as many as are
-/// needed, and the sizes of blocks: rows, inner, columns.
+/// needed, the minute of their answers, inside the window, and the sizes of blocks: rows, inner, columns.
 #[derive(Clone)]
 pub struct Work {
     pub job: Job,
@@ -29,6 +29,7 @@ pub struct Work {
     pub a_masks: Vec<u32>,
     pub b_masks: Vec<u32>,
     pub answering: Vec<u32>,
+    pub minute: u32,
     pub block: [u32; 3],
 }
 
@@ -61,6 +62,7 @@ impl Work {
         let q = prime(modulus);
         let ([m, p, n], [xa, xb]) = (shape.cuts, shape.groups);
         let [rows, inner, columns] = block;
+        let minute = random.within(0, u32::MAX - 1);
         let job = Job {
             modulus,
             t: m * rows,
@@ -73,6 +75,8 @@ impl Work {
             xb,
             hosts: shape.hosts,
             number: random.word(),
+            opening: random.within(0, minute),
+            closing: random.within(minute + 1, u32::MAX),
         };
         let points = points(random, q, shape.hosts);
         let layout = plan(&job, &points).ok()?.layout;
@@ -89,6 +93,7 @@ impl Work {
             a_masks: elements(random, q, (xa * rows * inner) as usize),
             b_masks: elements(random, q, (xb * inner * columns) as usize),
             answering: hosts,
+            minute,
             block,
         })
     }
@@ -224,6 +229,7 @@ pub fn take(calls: &impl Calls, work: &Work, room: &mut Room) -> Result<(), u32>
         room.heard,
         &mut room.store,
         &room.answer_message,
+        work.minute,
     )?;
     Ok(())
 }

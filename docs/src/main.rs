@@ -7,7 +7,8 @@
 //!             reading, masks, pages, the lister's text
 //!   cases     what the makers of cases have in common
 //!   lister    the subcommand `lister`: inputs of the plan lister
-//!   calls     the subcommand `calls`: shares, products, messages, signed reading, masks and pages
+//!   calls     the subcommand `calls`: shares, products, messages, signed reading, masks, pages and
+//!             plans
 //!   jobs      the subcommand `jobs`: arrivals and decodings, alone and in whole jobs
 //!   texts     the subcommand `texts`: whole jobs as plain texts
 //!   drawings  the subcommand `drawings`: masks to draw as plain texts

@@ -31,6 +31,8 @@ jobOf x = record {
   xb = x .xb;
   hosts = x .hosts;
   number = x .number;
+  opening = x .opening;
+  closing = x .closing;
 }
 
 abbrev pub headerOf : Fields → Header

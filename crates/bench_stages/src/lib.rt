@@ -33,6 +33,8 @@ pub struct Numbers {
     pub xb: u32,
     pub hosts: u32,
     pub number: u32,
+    pub opening: u32,
+    pub closing: u32,
 }
 
 // A message's fields, as message_header::Header has them.
@@ -62,6 +64,8 @@ fn job_of(x: Numbers) -> Job
         xb: x.xb,
         hosts: x.hosts,
         number: x.number,
+        opening: x.opening,
+        closing: x.closing,
     }
 }
 
@@ -188,7 +192,7 @@ pub extern "C" fn stages_read(message: &[u8], out: &mut [u32]) -> u32
     }
 }
 
-// Takes an answer's message: heard is then the hosts heard after it.
+// Takes an answer's message at a minute: heard is then the hosts heard after it.
 #[no_mangle]
 pub extern "C" fn stages_arrive(
     numbers: Numbers,
@@ -196,15 +200,18 @@ pub extern "C" fn stages_arrive(
     heard: &mut u64,
     store: &mut [u32],
     message: &[u8],
+    minute: u32,
 ) -> u32
     ensures number { λ r. let before = now (heard .entry) in
-        ⌜ r ≡ numberOf (arrived (jobOf numbers) (now (points .entry)) before (now (store .entry)) (now (message .entry))) ⌝ }
+        ⌜ r ≡ numberOf (arrived (jobOf numbers) (now (points .entry)) before (now (store .entry)) (now (message .entry)) minute) ⌝ }
     ensures heard { λ _. let before = now (heard .entry) in let job = jobOf numbers in
-        ⌜ now (heard .exit) ≡ heardAfter before (arrived job (now (points .entry)) before (now (store .entry)) (now (message .entry))) ⌝ }
+        ⌜ now (heard .exit)
+        ≡ heardAfter before (arrived job (now (points .entry)) before (now (store .entry)) (now (message .entry)) minute) ⌝ }
     ensures kept { λ _. let before = now (heard .entry) in
-        ⌜ now (store .exit) ≡ storeAfter (jobOf numbers) (now (points .entry)) before (now (store .entry)) (now (message .entry)) ⌝ }
+        ⌜ now (store .exit)
+        ≡ storeAfter (jobOf numbers) (now (points .entry)) before (now (store .entry)) (now (message .entry)) minute ⌝ }
 {
-    let arrived = arrival::arrive(job_of(numbers), points, *heard, store, message);
+    let arrived = arrival::arrive(job_of(numbers), points, *heard, store, message, minute);
     match arrived {
         Arrived::Refused(number) => number,
         Arrived::AlreadyIn => 0,

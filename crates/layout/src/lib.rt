@@ -2,7 +2,7 @@
 // The numbers of cuts and the group sizes are u8, so that every exponent fits a u32 and nothing has to be refused here.
 ghost use mathlib.Core.Path.{_≡_};
 ghost use Prim.Native.Nat.{_+_, _-_, _*_, _^_, _<_};
-ghost use Rattle.layout.specs.Exponents.{exponents, layout3, choice};
+ghost use Rattle.layout.specs.Exponents.{exponents, layout3, number, choice};
 ghost use Rattle.layout.specs.Contracts.{exponentBy, Follows, Nested};
 use std::num::wrapping_add_u32;
 
@@ -166,5 +166,16 @@ pub fn exponent_of(series: Series, s: Strides, i: u8, j: u8) -> u32
         Series::BlocksB => strided(j, s.stride_b, minus(last, i as u32)),
         Series::MasksB => wrapping_add_u32(s.mask_b, j as u32),
         Series::Places => strided(i, s.stride_a, strided(j, s.stride_b, last)),
+    }
+}
+
+// The layout's number on the sheet.
+pub fn number_of(layout: Layout) -> u32
+    ensures { λ r. ⌜ r ≡ number layout ⌝ }
+{
+    match layout {
+        Layout::First => 1,
+        Layout::Second => 2,
+        Layout::Third => 3,
     }
 }

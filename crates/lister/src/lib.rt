@@ -5,7 +5,6 @@ ghost use mathlib.Core.List.{_∷_, [], _++_};
 ghost use Prim.Native.Nat.{suc, _≤_};
 ghost use lib.ListN.{length, drop};
 ghost use Rattle.algebra.specs.Lists.{tab, grid};
-ghost use Rattle.layout.specs.Exponents.{number};
 ghost use Rattle.layout.specs.Contracts.{exponentBy};
 ghost use Rattle.plan.specs.Planning.{planned, tableJob};
 ghost use Rattle.text.specs.Contracts.{Writes};
@@ -20,7 +19,6 @@ ghost use Rattle.lister.specs.Listing.{
   listing,
 };
 ghost use Rattle.lister.specs.Contracts.{Lists, sideText, placesText};
-use layout::Layout;
 use layout::Series;
 use layout::Strides;
 use plan::Plan;
@@ -41,17 +39,6 @@ struct SideLine {
     grid_columns: u8,
     masks: Series,
     mask_count: u8,
-}
-
-// The layout's number on the sheet.
-fn number_of(layout: Layout) -> u32
-    ensures { λ r. ⌜ r ≡ number layout ⌝ }
-{
-    match layout {
-        Layout::First => 1,
-        Layout::Second => 2,
-        Layout::Third => 3,
-    }
 }
 
 // Writes a space and the number.
@@ -127,7 +114,7 @@ fn put_numbers(out: &mut [u8], hosts: u32, plan: Plan) -> usize
     let modulus = plan.modulus;
     let layout = plan.layout;
     let a = put_line(out, 0, b"MODULUS", field::prime_of(modulus));
-    let b = put_line(out, a, b"LAYOUT", number_of(layout));
+    let b = put_line(out, a, b"LAYOUT", layout::number_of(layout));
     let c = put_line(out, b, b"HOSTS", hosts);
     put_line(out, c, b"NEEDED", plan.needed)
 }

@@ -1,4 +1,5 @@
 -- Laws of planning.
+pub mod Examples
 pub mod Ranges
 pub mod Points
 pub mod Outcomes

@@ -19,7 +19,7 @@ use Rattle.plan.specs.declared.Job.{Job}
 use Rattle.plan.specs.Planning.{inWindow, planTests}
 use Rattle.plan.proofs.Facts.{facts}
 use Rattle.arrival.specs.Arriving.{minuteTests}
-use Rattle.promise.specs.Demand3.{Task, Call, arrival, decoding, State, reply, after, fit, fitFor, hasFit}
+use Rattle.promise.specs.Demand3.{Task, Call, arrival, decoding, State, reply, after, run, fit, fitFor, hasFit}
 use Rattle.promise.specs.Retried.{index}
 use Rattle.promise.specs.Windows.{missed, Windowed, UploadWindows}
 use Rattle.promise.proofs.Fits.{core, core-numbered, fit-core, fit-alike}
@@ -88,6 +88,11 @@ kept-length x s c =
     ⊎-elim (λ (good : Good x s). stepped x s good c .good .room ∙ sym (good .room)) (λ still. ap (λ (t : State). length (t .store)) (still c))
     (good-or-still x s)
 
+clock : (x : Task) (before : List Call) (s : State) (message : List ℕ) (minute : ℕ) → fit x (run x s before) message minute ≡ fit x s message minute
+unfolding run
+clock x [] s message minute = refl
+clock x (c ∷ before) s message minute = clock x before (after x s c) message minute ∙ alone x (after x s c) s (kept-length x s c) message minute
+
 module _ (x : Task) (i : ℕ) where
   -- an arrival inside the window whose message is fit and names the host of index i, in a list of calls
   abbrev Counted : State → List Call → Type 0
@@ -140,6 +145,7 @@ windowed x = record {
   inside = inside (x .job);
   window = window x;
   alone = alone x;
+  clock = λ s before. clock x before s;
   outside = λ s none message minute. outside x s message none minute;
   counted = λ s calls i. (
     there x i calls s,

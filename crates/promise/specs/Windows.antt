@@ -11,7 +11,7 @@ use mathlib.Core.List.{List, [], _∷_, _++_}
 use Prim.Native.Nat.{ℕ, _^_, _<_, _≤_}
 use lib.ListN.{length}
 use Rattle.plan.specs.Planning.{inWindow}
-use Rattle.promise.specs.Demand3.{Task, Call, arrival, State, Reply, after, reply, fit, hasFit}
+use Rattle.promise.specs.Demand3.{Task, Call, arrival, State, Reply, after, reply, run, fit, hasFit}
 use Rattle.promise.specs.Retried.{index}
 
 unfoldable pub missed : Reply
@@ -24,10 +24,11 @@ pub record Windowed (x : Task) : Type 0 where
   -- plays no part
   pub window : (s : State) (message : List ℕ) (minute : ℕ)
       → fit x s message minute ≡ (inWindow (x .job) minute && fit x s message (x .job .opening))
-  -- "Each is judged by its own minute alone, so a clock set back puts no other arrival in or out of the window": whatever came
-  -- before, in any two states
+  -- "Each is judged by its own minute alone": in any two states
   pub alone : (s s' : State) → length (s .store) ≡ length (s' .store) → (message : List ℕ) (minute : ℕ)
       → fit x s message minute ≡ fit x s' message minute
+  -- "so a clock set back puts no other arrival in or out of the window": whatever calls come before, at whatever minutes
+  pub clock : (s : State) (before : List Call) (message : List ℕ) (minute : ℕ) → fit x (run x s before) message minute ≡ fit x s message minute
   -- "30, arrival outside the window, just before 23 and before "already in"": heard or not, repeated or not, where 21 does not fit
   pub outside : (s : State) → s .heard < 2 ^ x .job .hosts → (message : List ℕ) (minute : ℕ)
       → fit x s message (x .job .opening) ≡ true → inWindow (x .job) minute ≡ false

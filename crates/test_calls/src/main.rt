@@ -1,5 +1,5 @@
-// Runs shares, products, messages, signed reading, drawings of masks and pages on many inputs: cases come from standard input, one
-// after another, and what they return goes to standard output. Both are those of the separate Rust program, whose
+// Runs plans, shares, products, messages, signed reading, drawings of masks and pages on many inputs: cases come from standard
+// input, one after another, and what they return goes to standard output. Both are those of the separate Rust program, whose
 // docs/src/calls/format.rs tells their format.
 ghost use mathlib.Core.Path.{_≡_};
 ghost use Prim.Native.Nat.{_≤_};
@@ -12,6 +12,7 @@ use masks::Drawn;
 use message::Parsed;
 use message_header::Header;
 use plan::Job;
+use plan::Planned;
 use share::Matrix;
 use words::least;
 
@@ -35,7 +36,7 @@ const MOST_ELEMENTS: usize = 8192;
 const MOST_PAGE: usize = 400000;
 
 // The words before a case's lists.
-const HEAD_WORDS: usize = 18;
+const HEAD_WORDS: usize = 20;
 
 // The program ends, however long its input is.
 const MOST_CASES: u32 = 1000000;
@@ -109,7 +110,7 @@ fn put_bytes(out: &[u8])
     io::write_all(STDOUT_FILENO, &out[..n]);
 }
 
-// The job of a share.
+// The job of a plan or a share.
 fn job_of(head: [u32; HEAD_WORDS]) -> Job {
     Job {
         modulus: head[1],
@@ -123,6 +124,28 @@ fn job_of(head: [u32; HEAD_WORDS]) -> Job {
         xb: head[9],
         hosts: head[10],
         number: head[11],
+        opening: head[12],
+        closing: head[13],
+    }
+}
+
+// Writes what planning returns: 0, the layout's number, K, and rows, inner and columns of the blocks; or the refusal number.
+fn put_planned(outcome: Planned) {
+    match outcome {
+        Planned::Refused(number) => test_io::put_number(number),
+        Planned::Accepted(plan) => {
+            let layout = plan.layout;
+            test_io::put_words(
+                &[
+                    0,
+                    layout::number_of(layout),
+                    plan.needed,
+                    plan.rows,
+                    plan.inner,
+                    plan.columns,
+                ],
+            );
+        }
     }
 }
 
@@ -136,7 +159,7 @@ fn run_share(
     out: &mut [u32],
 ) -> u32 {
     let job = job_of(head);
-    share::share(matrix, job, points, head[12], xs, masks, out)
+    share::share(matrix, job, points, head[14], xs, masks, out)
 }
 
 // Makes a product.
@@ -221,6 +244,7 @@ fn run_call(
         6 => put_signed(field_signed::signed_reading(head[1], head[2])),
         7 => put_element(run_way_back(head)),
         8 => put_drawn(masks::draw_masks(head[1], xs, out)),
+        10 => put_planned(plan::plan_job(job_of(head), points)),
         _ => return false,
     }
     true
@@ -234,7 +258,7 @@ fn print_call(
     ys: &[u32],
     message: &[u8],
 ) -> bool {
-    let room = head[17] as usize;
+    let room = head[19] as usize;
     if MOST_ELEMENTS < room {
         return false;
     }
@@ -248,7 +272,7 @@ fn print_call(
 
 // Answers a case of a message to write; false where its output is too long.
 fn print_write(head: [u32; HEAD_WORDS], xs: &[u32]) -> bool {
-    let room = head[17] as usize;
+    let room = head[19] as usize;
     if MOST_BYTES < room {
         return false;
     }
@@ -269,7 +293,7 @@ fn print_write(head: [u32; HEAD_WORDS], xs: &[u32]) -> bool {
 
 // Answers a case of a page to write; false where its output is too long.
 fn print_page(head: [u32; HEAD_WORDS], table: &[u32]) -> bool {
-    let room = head[17] as usize;
+    let room = head[19] as usize;
     if MOST_PAGE < room {
         return false;
     }
@@ -282,7 +306,7 @@ fn print_page(head: [u32; HEAD_WORDS], table: &[u32]) -> bool {
 
 // Reads the message of a case and runs it; false where it is over the limits, or the input ends in it.
 fn run_message(head: [u32; HEAD_WORDS], points: &[u32], xs: &[u32], ys: &[u32]) -> bool {
-    let count = head[16] as usize;
+    let count = head[18] as usize;
     let mut message = filled_message();
     let n = test_io::read_bytes(count, &mut message);
     if n < count {
@@ -298,7 +322,7 @@ fn run_message(head: [u32; HEAD_WORDS], points: &[u32], xs: &[u32], ys: &[u32]) 
 
 // Answers a case with these lists; false where it is over the limits, or the input ended in it.
 fn run_lists(head: [u32; HEAD_WORDS], lists: &[u32]) -> bool {
-    let ends = ends_of(head[13], head[14], head[15]);
+    let ends = ends_of(head[15], head[16], head[17]);
     let points = ends.points;
     let xs = ends.xs;
     let ys = ends.ys;
@@ -310,7 +334,7 @@ fn run_lists(head: [u32; HEAD_WORDS], lists: &[u32]) -> bool {
 
 // Reads the lists of a case and runs it; false where it is over the limits, or the input ends in it.
 fn run_case(head: [u32; HEAD_WORDS]) -> bool {
-    let ends = ends_of(head[13], head[14], head[15]);
+    let ends = ends_of(head[15], head[16], head[17]);
     let mut lists = list_words();
     let n = test_io::read_words(ends.ys, &mut lists);
     run_lists(head, &lists[..n])

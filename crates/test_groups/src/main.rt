@@ -37,7 +37,10 @@ const STORE: usize = 80;
 // The prime of the job.
 const PRIME: u32 = 257;
 
-// The job of the sheet's lister line.
+// The minute of every arrival.
+const MINUTE: u32 = 59;
+
+// The job of the sheet's lister line, with a window that has this minute alone.
 fn job() -> Job {
     Job {
         modulus: 2,
@@ -51,6 +54,8 @@ fn job() -> Job {
         xb: 2,
         hosts: 20,
         number: 1140,
+        opening: MINUTE,
+        closing: MINUTE + 1,
     }
 }
 
@@ -166,7 +171,7 @@ fn other_byte(byte: u8) -> u8 {
 
 // A message of a host that is heard, the same as its first, is in already.
 fn is_in_already(points: &[u32], heard: u64, store: &mut [u32], message: &[u8]) -> bool {
-    match arrival::arrive(job(), points, heard, store, message) {
+    match arrival::arrive(job(), points, heard, store, message, MINUTE) {
         Arrived::Refused(_) => false,
         Arrived::AlreadyIn => true,
         Arrived::Taken(_) => false,
@@ -179,7 +184,7 @@ fn is_refused(points: &[u32], heard: u64, store: &mut [u32], message: &[u8]) -> 
     message_bytes::copy_bytes(message, &mut other);
     other[30] = 0;
     other[31] = other_byte(other[31]);
-    match arrival::arrive(job(), points, heard, store, &other) {
+    match arrival::arrive(job(), points, heard, store, &other, MINUTE) {
         Arrived::Refused(number) => number == refusal::HEARD,
         Arrived::AlreadyIn => false,
         Arrived::Taken(_) => false,
@@ -189,7 +194,7 @@ fn is_refused(points: &[u32], heard: u64, store: &mut [u32], message: &[u8]) -> 
 // Lets a message arrive twice, and then with another element: it must be taken, in already, and refused. Tells the hosts heard
 // then, or none.
 fn arrive_thrice(points: &[u32], heard: u64, store: &mut [u32], message: &[u8]) -> u64 {
-    match arrival::arrive(job(), points, heard, store, message) {
+    match arrival::arrive(job(), points, heard, store, message, MINUTE) {
         Arrived::Refused(_) => 0,
         Arrived::AlreadyIn => 0,
         Arrived::Taken(after) => {

@@ -16,7 +16,7 @@ const MOST_TABLE: usize = 4096;
 const MOST_BYTES: usize = 20000;
 
 // The words before a case's lists.
-const HEAD_WORDS: usize = 19;
+const HEAD_WORDS: usize = 22;
 
 // What tells that an arrival is taken, and that it is in already; a refused one is told by its number.
 const TAKEN: u32 = 0;
@@ -40,6 +40,8 @@ fn job_of(head: [u32; HEAD_WORDS]) -> Job {
         xb: head[9],
         hosts: head[10],
         number: head[11],
+        opening: head[12],
+        closing: head[13],
     }
 }
 
@@ -71,15 +73,15 @@ fn filled_table() -> [u32; MOST_TABLE]
 
 // Reads a message and lets it arrive; false where the input ends in it, or it is too long.
 fn run_arrival(head: [u32; HEAD_WORDS], points: &[u32], store: &mut [u32]) -> bool {
-    let count = head[17] as usize;
+    let count = head[19] as usize;
     let mut message = message_room();
     let n = test_io::read_bytes(count, &mut message);
     if n < count {
         return false;
     }
     let job = job_of(head);
-    let heard = heard_of(head[12], head[13]);
-    match arrival::arrive(job, points, heard, store, &message[..n]) {
+    let heard = heard_of(head[14], head[15]);
+    match arrival::arrive(job, points, heard, store, &message[..n], head[20]) {
         Arrived::Refused(number) => put_arrived(number, heard),
         Arrived::AlreadyIn => put_arrived(ALREADY_IN, heard),
         Arrived::Taken(after) => put_arrived(TAKEN, after),
@@ -89,13 +91,13 @@ fn run_arrival(head: [u32; HEAD_WORDS], points: &[u32], store: &mut [u32]) -> bo
 
 // Decodes a table; false where it is too long.
 fn run_decoding(head: [u32; HEAD_WORDS], points: &[u32], store: &[u32]) -> bool {
-    let room = head[18] as usize;
+    let room = head[21] as usize;
     if MOST_TABLE < room {
         return false;
     }
     let mut table = filled_table();
     let job = job_of(head);
-    let heard = heard_of(head[12], head[13]);
+    let heard = heard_of(head[14], head[15]);
     let number = decode::decode(job, points, heard, store, &mut table[..room]);
     test_io::put_number(number);
     test_io::put_output(&table[..room]);
@@ -127,7 +129,7 @@ fn renew_store(renewed: u32, store: &mut [u32]) -> bool {
 
 // Makes the call of a case on its store; false where the input ends in it, or it is over the limits.
 fn run_store(head: [u32; HEAD_WORDS], points: &[u32], store: &mut [u32]) -> bool {
-    if !renew_store(head[16], store) {
+    if !renew_store(head[18], store) {
         return false;
     }
     run_call(head, points, store)
@@ -137,8 +139,8 @@ fn run_store(head: [u32; HEAD_WORDS], points: &[u32], store: &mut [u32]) -> bool
 // limits.
 fn run_case(head: [u32; HEAD_WORDS], store: &mut [u32]) -> bool {
     let mut points = [0u32; MOST_POINTS];
-    let count = head[14] as usize;
-    let room = head[15] as usize;
+    let count = head[16] as usize;
+    let room = head[17] as usize;
     let p = test_io::read_words(count, &mut points);
     if p < count || store.len() < room {
         return false;

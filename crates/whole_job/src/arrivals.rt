@@ -1,4 +1,4 @@
-// The answers, taken in the order given.
+// The answers, taken in the order given, each at its minute.
 ghost use mathlib.Core.Path.{_≡_};
 ghost use Prim.Native.Nat.{_<_};
 ghost use lib.ListN.{length};
@@ -32,7 +32,7 @@ fn say_turned_down(host: u32, number: u32) {
 // Lets an answer's message arrive, prints what became of it, and returns the hosts heard then.
 fn take_message(turn: Turn, points: &[u32], store: &mut [u32], message: &[u8]) -> u64 {
     let job = turn.job;
-    match arrival::arrive(job, points, turn.heard, store, message) {
+    match arrival::arrive(job, points, turn.heard, store, message, turn.minute) {
         Arrived::Refused(number) => {
             say_turned_down(turn.host, number);
             turn.heard
@@ -82,7 +82,7 @@ fn hear(
     take_message(turn, points, store, &message[..n])
 }
 
-// Takes answers in the order given; prints what becomes of each, and returns the hosts heard.
+// Takes answers in the order given, a host and its minute each; prints what becomes of each, and returns the hosts heard.
 pub(crate) fn hear_all(
     whole: Whole,
     numbers: &[u32],
@@ -97,14 +97,17 @@ pub(crate) fn hear_all(
     let starts = whole.starts;
     let points = numbers_of(numbers, &starts, sections::POINTS);
     let order = numbers_of(numbers, &starts, sections::ANSWERS);
+    let answers = order.len() / 2;
     let mut heard = 0;
     let mut i = 0;
-    while i < order.len() {
+    while i < answers {
+        let at = 2 * i;
         let turn = Turn {
             job,
             sizes,
             needed: whole.needed,
-            host: order[i],
+            host: order[at],
+            minute: order[at + 1],
             heard,
         };
         heard = hear(turn, points, shares, store, pair, product, message);

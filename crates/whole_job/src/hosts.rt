@@ -21,13 +21,14 @@ const SHARE_OF_B: u32 = 2;
 
 const ANSWER: u32 = 3;
 
-// The turn of a host: the job, the sizes of its blocks, the number of answers needed, the host's number, and the hosts heard
-// before.
+// The turn of a host: the job, the sizes of its blocks, the number of answers needed, the host's number, the minute of its
+// answer, and the hosts heard before.
 pub(crate) struct Turn {
     pub(crate) job: Job,
     pub(crate) sizes: Sizes,
     pub(crate) needed: u32,
     pub(crate) host: u32,
+    pub(crate) minute: u32,
     pub(crate) heard: u64,
 }
 

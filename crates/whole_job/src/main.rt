@@ -1,7 +1,7 @@
-// A whole job: reads a job, its points, both matrices, the masks and the order of the answers from plain text, and does all
-// that the bank and the hosts do: plans, shares, multiplies, sends every block as a message, takes the answers in the order
-// given, and decodes. Prints the plan, what became of each answer, the table, its signed reading, and the kinship page.
-// README.md, "The text of a job", tells the format and every line that is printed.
+// A whole job: reads a job, its points, both matrices, the masks and the order of the answers with their minutes from plain
+// text, and does all that the bank and the hosts do: plans, shares, multiplies, sends every block as a message, takes the
+// answers in the order given, and decodes. Prints the plan, what became of each answer, the table, its signed reading, and the
+// kinship page. README.md, "A whole job from plain text", tells the format and every line that is printed.
 mod arrivals; // the answers taken, and the hosts heard
 mod hosts; // what a host does with its shares
 mod lines; // the numbers of a line

@@ -11,6 +11,7 @@ use crate::rooms::size_b;
 use crate::sections;
 use crate::sections::numbers_of;
 use crate::sections::say_count;
+use crate::sections::say_no_minute;
 use lister::LISTING_ROOM;
 use plan::Job;
 use plan::Plan;
@@ -21,7 +22,7 @@ use program_lines::say_number;
 use program_lines::say_refused;
 
 // How many numbers the section JOB has.
-const JOB_NUMBERS: usize = 11;
+const JOB_NUMBERS: usize = 13;
 
 // A planned job: its numbers, the sizes of its blocks, the number of answers needed, and where the numbers of each section of
 // its text start, with the end of the last.
@@ -69,7 +70,18 @@ fn needed_in(section: usize, job: Job, sizes: Sizes) -> usize {
     }
 }
 
-// The sections from A to B's masks have as many numbers as they need; prints the first that has not.
+// Every host of the answers has a minute after it; prints where the last has none.
+fn has_minutes(numbers: &[u32], starts: &[usize; 8], word_lines: &[usize; 7]) -> bool {
+    let has = numbers_of(numbers, starts, sections::ANSWERS).len();
+    if has % 2 == 0 {
+        return true;
+    }
+    say_no_minute(has, word_lines[sections::ANSWERS]);
+    false
+}
+
+// The sections from A to B's masks have as many numbers as they need, and the answers a minute after each host; prints the first
+// that has not.
 fn has_all(
     job: Job,
     sizes: Sizes,
@@ -87,12 +99,12 @@ fn has_all(
         }
         section += 1;
     }
-    true
+    has_minutes(numbers, starts, word_lines)
 }
 
 // The job of the numbers at the front.
 fn job_of(numbers: &[u32]) -> Job
-    requires { ⌜ 11 ≤ length (now numbers) ⌝ }
+    requires { ⌜ 13 ≤ length (now numbers) ⌝ }
 {
     Job {
         modulus: numbers[0],
@@ -106,6 +118,8 @@ fn job_of(numbers: &[u32]) -> Job
         xb: numbers[8],
         hosts: numbers[9],
         number: numbers[10],
+        opening: numbers[11],
+        closing: numbers[12],
     }
 }
 

@@ -103,16 +103,36 @@ fn say_expected(text: &[u8], section: usize, at: usize)
     say(b"\n");
 }
 
-// Prints how many numbers a section has and needs, and the line of its word.
-pub(crate) fn say_count(section: usize, has: usize, needs: usize, line: usize)
+// Prints how many numbers a section has.
+fn say_has(section: usize, has: usize)
     requires { ⌜ section < 7 ⌝ }
 {
     say(b"SECTION ");
     say_word(section);
     say_number(b" has ", has as u64);
-    say_number(b" numbers and needs ", needs as u64);
+    say(b" numbers");
+}
+
+// Prints the line of a section's word.
+fn say_line(line: usize) {
     say_number(b", line ", line as u64);
     say(b"\n");
+}
+
+// Prints how many numbers a section has and needs, and the line of its word.
+pub(crate) fn say_count(section: usize, has: usize, needs: usize, line: usize)
+    requires { ⌜ section < 7 ⌝ }
+{
+    say_has(section, has);
+    say_number(b" and needs ", needs as u64);
+    say_line(line);
+}
+
+// Prints how many numbers the answers have, where the last host has no minute after it, and the line of their word.
+pub(crate) fn say_no_minute(has: usize, line: usize) {
+    say_has(ANSWERS, has);
+    say(b" and needs a minute after each host");
+    say_line(line);
 }
 
 // ---- offsets, and parts of the numbers

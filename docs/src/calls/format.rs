@@ -1,37 +1,41 @@
 //! The file format of calls and of their outcomes. A word is 4 bytes, big-endian.
 //!
-//! A case is 18 words, three lists of words, and a list of bytes:
+//! A case is 20 words, three lists of words, and a list of bytes:
 //!
 //!   0       the call: 1 share of A, 2 share of B, 3 product, 4 write a message, 5 read a message,
-//!           6 signed reading, 7 its way back, 8 draw masks, 9 write a page
-//!   1..=12  the call's numbers, unused ones 0
-//!             share           modulus number, t, s, r, m, p, n, X_A, X_B, N, job number, host
+//!           6 signed reading, 7 its way back, 8 draw masks, 9 write a page, 10 plan
+//!   1..=14  the call's numbers, unused ones 0
+//!             share           modulus number, t, s, r, m, p, n, X_A, X_B, N, job number, opening,
+//!                             closing, host
 //!             product         modulus number, rows, inner, columns
 //!             write           kind, modulus number, host, rows, columns, job number
 //!             signed reading  modulus number, element
 //!             way back        modulus number, value: the high word and the low one
 //!             draw            modulus number
 //!             page            modulus number, t, r
-//!   13      length of list 1: a share's points
-//!   14      length of list 2: a share's matrix, a product's a, the elements to write, the words to draw
+//!             plan            the thirteen numbers of a share's job
+//!   15      length of list 1: the points of a share or a plan
+//!   16      length of list 2: a share's matrix, a product's a, the elements to write, the words to draw
 //!           masks from, a page's table
-//!   15      length of list 3: a share's masks, a product's b
-//!   16      length of the list of bytes: the message to read
-//!   17      length of the output: in bytes for a message or a page to write, else in elements
+//!   17      length of list 3: a share's masks, a product's b
+//!   18      length of the list of bytes: the message to read
+//!   19      length of the output: in bytes for a message or a page to write, else in elements
 //!
 //! A signed value has 64 bits in two's complement, and goes as two words, the high one first.
 //!
 //! An outcome is the refusal number, 0 for a call that was done; then, of a message that was read,
 //! kind, modulus number, host, rows, columns and job number, of an element that was read its signed
-//! value in two words, of a value taken back its element, and of masks that were drawn the number of
-//! words used; then the output after the call. Before it every byte of the output is A5 hex. Of the
+//! value in two words, of a value taken back its element, of masks that were drawn the number of words
+//! used, and of a plan that was accepted the layout's number, K, and the rows, inner side and columns of
+//! the blocks; then the output after the call. Before it every byte of the output is A5 hex. Of the
 //! output the part up to the last element that is not A5A5A5A5 hex is told (for a message or a page to
 //! write: the last byte that is not A5): a word with its length, then the elements as words, or the bytes.
-//! Signed reading and its way back have an output of length 0.
+//! Signed reading, its way back and a plan have an output of length 0.
 
 use crate::sheet::masks::{draw, Drawing};
 use crate::sheet::message::{read, write, Fields, Reading, Writing};
 use crate::sheet::page::{page, Paging};
+use crate::sheet::plan::{plan, Planning};
 use crate::sheet::product::{product, Multiplying};
 use crate::sheet::share::{share, Sharing, Side};
 use crate::sheet::signed::{signed_reading, way_back, SignedReading, WayBack};
@@ -50,6 +54,7 @@ pub enum Call {
     Back(WayBack),
     Draw(Drawing),
     Page(Paging),
+    Plan(Planning),
 }
 
 /// A case before it is made into bytes.
@@ -75,6 +80,7 @@ pub fn case(call: &Call) -> Vec<u8> {
         }
         Call::Draw(call) => draw_case(call),
         Call::Page(call) => page_case(call),
+        Call::Plan(call) => plan_case(call),
     })
 }
 
@@ -82,7 +88,7 @@ pub fn case(call: &Call) -> Vec<u8> {
 fn share_case(call: &Sharing) -> Case<'_> {
     Case {
         call: if call.side == Side::A { 1 } else { 2 },
-        numbers: [&call.job.line()[..], &[call.job_number, call.host]].concat(),
+        numbers: [call.job.numbers(call.job_number), vec![call.host]].concat(),
         lists: [&call.points, &call.matrix, &call.masks],
         message: &[],
         room: call.room,
@@ -144,6 +150,14 @@ fn page_case(call: &Paging) -> Case<'_> {
     }
 }
 
+/// The case of a plan.
+fn plan_case(call: &Planning) -> Case<'_> {
+    Case {
+        lists: [&call.points, &[], &[]],
+        ..numbers_case(10, call.job.numbers(call.job_number))
+    }
+}
+
 /// The case of a call that has numbers alone.
 fn numbers_case<'a>(call: u32, numbers: Vec<u32>) -> Case<'a> {
     Case {
@@ -184,7 +198,7 @@ fn bytes_of(case: &Case) -> Vec<u8> {
     assert!(case.message.len() <= 20_000 && case.room <= most_room);
     let mut head = vec![case.call];
     head.extend(&case.numbers);
-    head.resize(13, 0);
+    head.resize(15, 0);
     head.extend(lengths.map(|length| length as u32));
     head.extend([case.message.len() as u32, case.room as u32]);
     let mut bytes = words(&head);
@@ -209,6 +223,7 @@ pub fn number(call: &Call) -> u32 {
         Call::Back(call) => way_back(call).err(),
         Call::Draw(call) => draw(call).err(),
         Call::Page(call) => page(call).err(),
+        Call::Plan(call) => plan(call).err(),
     };
     refused.unwrap_or(0)
 }
@@ -225,6 +240,7 @@ pub fn outcome(call: &Call) -> Vec<u8> {
         Call::Back(call) => value_told(way_back(call).map(|element| [element])),
         Call::Draw(call) => drawing_told(call),
         Call::Page(call) => bytes_told(&page(call).unwrap_or_default(), call.room),
+        Call::Plan(call) => value_told(plan(call)),
     });
     bytes
 }

@@ -1,5 +1,5 @@
-//! The subcommand `calls`: gathers the cases of shares, products, messages, signed reading, masks and
-//! pages, checks them, writes them with their outcomes.
+//! The subcommand `calls`: gathers the cases of shares, products, messages, signed reading, masks, pages
+//! and plans, checks them, writes them with their outcomes.
 //!
 //!   shares        cases of shares that are fit
 //!   share_faults  cases of shares that are refused
@@ -10,6 +10,7 @@
 //!   signed        cases of signed reading and of its way back
 //!   masks         cases of masks to draw
 //!   pages         cases of pages to write
+//!   plans         cases of plans
 //!   format        the file format of cases and outcomes
 
 pub mod damage;
@@ -18,6 +19,7 @@ pub mod format;
 pub mod masks;
 pub mod messages;
 mod pages;
+mod plans;
 mod products;
 mod share_faults;
 pub mod shares;
@@ -28,29 +30,32 @@ use std::collections::HashSet;
 use crate::cases::counts::{hold, Counts, Floors};
 use crate::cases::faults::Expected;
 use crate::cases::save;
+use crate::sheet::listing::{refused, reply, text};
 use crate::sheet::masks::{draw, Drawing, Drawn};
 use crate::sheet::masks_check;
 use crate::sheet::message::{read, write, Reading, Writing};
 use crate::sheet::page::{page, Paging};
 use crate::sheet::page_check;
+use crate::sheet::plan::{plan, Planning};
 use crate::sheet::plan_check;
 use crate::sheet::product::product;
 use crate::sheet::random::Random;
 use crate::sheet::share::{share, Side};
 use crate::sheet::signed::{signed_reading, way_back, SignedReading, WayBack};
 use crate::sheet::sums_check;
+use crate::sheet::window_check;
 use format::{case, number, outcome, Call};
 
 /// The numbers that each call can give, with the least count of cases.
 #[rustfmt::skip]
 const FLOORS: &Floors = &[
     ("share of A", &[
-        (0, 554), (1, 197), (2, 108), (3, 99), (4, 64), (5, 93), (6, 77), (7, 42), (8, 52), (9, 64),
-        (10, 59), (11, 27), (12, 36), (13, 80), (14, 38), (15, 34),
+        (0, 590), (1, 217), (2, 120), (3, 111), (4, 72), (5, 105), (6, 89), (7, 50), (8, 60),
+        (9, 64), (10, 59), (11, 27), (12, 36), (13, 80), (14, 38), (15, 34), (29, 124),
     ]),
     ("share of B", &[
-        (0, 553), (1, 195), (2, 106), (3, 101), (4, 68), (5, 90), (6, 78), (7, 44), (8, 47),
-        (9, 65), (10, 60), (11, 27), (12, 36), (13, 77), (14, 38), (15, 34),
+        (0, 571), (1, 215), (2, 118), (3, 113), (4, 76), (5, 102), (6, 90), (7, 52), (8, 55),
+        (9, 65), (10, 60), (11, 27), (12, 36), (13, 77), (14, 38), (15, 34), (29, 104),
     ]),
     ("product", &[(0, 495), (1, 125), (2, 116), (6, 70), (13, 95), (14, 88)]),
     ("write", &[(0, 159), (1, 147), (2, 58), (6, 38), (12, 54), (13, 52), (14, 32), (16, 84)]),
@@ -62,6 +67,10 @@ const FLOORS: &Floors = &[
     ("way back", &[(0, 889), (1, 390), (25, 496)]),
     ("masks", &[(0, 540), (1, 105), (27, 458)]),
     ("page", &[(0, 474), (1, 285), (2, 301), (13, 255), (14, 296), (28, 363)]),
+    ("plan", &[
+        (0, 380), (1, 298), (2, 168), (3, 151), (4, 101), (5, 128), (6, 127), (7, 100), (8, 130),
+        (9, 37), (10, 40), (11, 17), (29, 359),
+    ]),
 ];
 
 /// Checks the program, then writes the cases to one file and their outcomes to the other.
@@ -70,6 +79,7 @@ pub fn write_files(stdin_file: &str, stdout_file: &str) {
     masks_check::run();
     page_check::run();
     sums_check::run();
+    window_check::run();
     hand_values();
     signed_values();
     let calls = gathered();
@@ -111,8 +121,8 @@ fn signed_values() {
     assert_eq!(back(5, 0), Err(1));
 }
 
-/// All calls, each once. Shares, masks and pages have generators of their own: no other call changes with
-/// them.
+/// All calls, each once. Shares, masks, pages and plans have generators of their own: no other call
+/// changes with them.
 fn gathered() -> Vec<Call> {
     let random = &mut Random::new(2027);
     let mut calls = expected(shares::expected(random), Call::Share);
@@ -132,6 +142,9 @@ fn gathered() -> Vec<Call> {
     calls.extend(expected(masks::expected(random), Call::Draw));
     let random = &mut Random::new(2032);
     calls.extend(expected(pages::expected(random), Call::Page));
+    let random = &mut Random::new(2035);
+    calls.extend(expected(plans::expected(random), Call::Plan));
+    calls.extend(plans::computed(random).into_iter().map(Call::Plan));
     let mut seen = HashSet::new();
     calls.retain(|call| seen.insert(case(call)));
     calls
@@ -150,7 +163,8 @@ fn expected<T>(list: Expected<T>, as_call: fn(T) -> Call) -> Vec<Call> {
 
 /// Panics unless a message that is written reads back to its fields and elements, one that is read
 /// is written again byte for byte, signed reading and its way back undo each other, the words used give
-/// the masks that all words give, and a page that is written reads back to its table.
+/// the masks that all words give, a page that is written reads back to its table, and a plan is the
+/// lister's.
 fn reads_back(call: &Call) {
     match call {
         Call::Write(call) => {
@@ -175,6 +189,7 @@ fn reads_back(call: &Call) {
         Call::Back(call) => back_signed(call),
         Call::Draw(call) => drawn_again(call),
         Call::Page(call) => page_back(call),
+        Call::Plan(call) => listed(call),
         Call::Share(_) | Call::Product(_) => {}
     }
 }
@@ -217,6 +232,26 @@ fn page_back(call: &Paging) {
     }
 }
 
+/// Panics unless the lister says the same of the job, which knows no window and no points: it tells 1
+/// to 8, and prints the layout and K.
+fn listed(call: &Planning) {
+    let line = call.job.line();
+    if line.iter().any(|&number| number > 99999) {
+        return;
+    }
+    let printed = reply(&text(&line));
+    match plan(call) {
+        Err(number @ 1..=8) => assert_eq!(printed, refused(number)),
+        Err(_) => assert!(printed.starts_with("MODULUS ")),
+        Ok([layout, needed, rows, inner, columns]) => {
+            let [_, t, s, r, m, p, n, _, _, hosts] = line;
+            let told = format!("\nLAYOUT {layout}\nHOSTS {hosts}\nNEEDED {needed}\n");
+            assert!(printed.contains(&told));
+            assert_eq!([rows * m, inner * p, columns * n], [t, s, r]);
+        }
+    }
+}
+
 /// How many cases there are of each call and refusal number.
 fn counted(calls: &[Call]) -> Counts {
     let mut counts = Counts::new();
@@ -238,5 +273,6 @@ fn name(call: &Call) -> &'static str {
         Call::Back(_) => "way back",
         Call::Draw(_) => "masks",
         Call::Page(_) => "page",
+        Call::Plan(_) => "plan",
     }
 }

@@ -1,13 +1,19 @@
 //! Cases of the two share calls that are refused, and fit ones beside them.
 //!
-//!   expected  all of them
+//!   expected        all of them
+//!   plan_faults     the faults of a share's plan
+//!   of_short_window
+//!                   a call from which cases with faults start
+//!   of_other_plans  plans like `SMALL`
+//!   point_lists     points at the border of a field
 
 use super::shares::{by_hand, drawn, EXAMPLE, LAYOUT_3, SIDES, SMALL};
 use crate::cases::draw::in_each_modulus;
 use crate::cases::faults::{
     alone, alone_and_in_pairs, border_elements, wrong_lengths, Expected, Fault,
 };
-use crate::sheet::plan::{known_prime, primes, Line};
+use crate::cases::windows::of_plans;
+use crate::sheet::plan::{known_prime, primes, Job, Line};
 use crate::sheet::random::Random;
 use crate::sheet::share::{Sharing, Side};
 
@@ -20,13 +26,14 @@ pub fn expected(random: &mut Random) -> Expected<Sharing> {
         elements(random),
         points(random),
         large_plans(random),
+        windows(&mut random.clock()),
     ];
     groups.concat()
 }
 
 /// The faults of a share of `SMALL`, or of its sizes with more hosts or over another prime, in the order
 /// of the tests.
-const FAULTS: [Fault<Sharing>; 39] = [
+const FAULTS: [Fault<Sharing>; 43] = [
     (1, |call| call.job.modulus = 0),
     (1, |call| call.job.modulus = 5),
     (1, |call| call.job.modulus = 255),
@@ -50,6 +57,12 @@ const FAULTS: [Fault<Sharing>; 39] = [
     (7, |call| with_hosts(call, 65)),
     (8, |call| call.job.hosts = 8),
     (8, |call| with_hosts(call, 8)),
+    (29, |call| call.job.closing = call.job.opening),
+    (29, |call| call.job.opening = u32::MAX),
+    (29, |call| call.job.closing = 0),
+    (29, |call| {
+        (call.job.opening, call.job.closing) = (call.job.closing, call.job.opening)
+    }),
     (9, |call| call.points.clear()),
     (9, |call| call.points.truncate(9)),
     (9, |call| call.points.push(11)),
@@ -68,6 +81,13 @@ const FAULTS: [Fault<Sharing>; 39] = [
     (15, |call| *last(&mut call.masks) = u32::MAX),
 ];
 
+/// The faults of a share's plan among these.
+pub fn plan_faults() -> Vec<Fault<Sharing>> {
+    let is_plan = |number: u32| number <= 11 || number == 29;
+    let faults = FAULTS.into_iter();
+    faults.filter(|fault| is_plan(fault.0)).collect()
+}
+
 /// Gives a call another number of hosts, with some of its points left out or more put in.
 fn with_hosts(call: &mut Sharing, hosts: u32) {
     call.job.hosts = hosts;
@@ -80,24 +100,35 @@ fn last(elements: &mut [u32]) -> &mut u32 {
     elements.last_mut().expect("an element")
 }
 
+/// A call of `SMALL`, or of its sizes with more hosts or over another prime, with a short window.
+pub fn of_short_window(random: &mut Random, side: Side, line: Line) -> Sharing {
+    let mut call = drawn(random, side, line, 2);
+    (call.job.opening, call.job.closing) = (43200, 43230);
+    call
+}
+
 /// Each fault alone and in pairs, for both sides.
 fn fault_pairs(random: &mut Random) -> Expected<Sharing> {
-    let bases = SIDES.map(|side| drawn(random, side, SMALL, 2));
+    let bases = SIDES.map(|side| of_short_window(random, side, SMALL));
     bases
         .iter()
         .flat_map(|base| alone_and_in_pairs(base, &FAULTS))
         .collect()
 }
 
-/// Each fault alone, for both sides: of a job in layout 3 with the sizes of `SMALL`, K = 13 of 13 hosts,
-/// and of `SMALL` over the other primes.
-fn faults_alone(random: &mut Random) -> Expected<Sharing> {
+/// A job in layout 3 with the sizes of `SMALL`, K = 13 of 13 hosts, and `SMALL` over the other primes.
+pub fn of_other_plans() -> Vec<Line> {
     let mut lines: Vec<Line> = vec![[2, 4, 3, 2, 2, 1, 2, 3, 3, 13]];
     lines.extend(in_each_modulus(SMALL).filter(|&line| line != SMALL));
+    lines
+}
+
+/// Each fault alone, for both sides of these jobs.
+fn faults_alone(random: &mut Random) -> Expected<Sharing> {
     let mut calls = Vec::new();
-    for line in lines {
+    for line in of_other_plans() {
         for side in SIDES {
-            calls.extend(alone(&drawn(random, side, line, 2), &FAULTS));
+            calls.extend(alone(&of_short_window(random, side, line), &FAULTS));
         }
     }
     calls
@@ -173,7 +204,7 @@ fn points(random: &mut Random) -> Expected<Sharing> {
 }
 
 /// Lists of points for three hosts with the number that is due.
-fn point_lists(q: u32) -> Expected<Vec<u32>> {
+pub fn point_lists(q: u32) -> Expected<Vec<u32>> {
     let lists: [(&[u32], u32); 15] = [
         (&[q - 1, 1, 7], 0),
         (&[2, q - 2, q - 1], 0),
@@ -228,4 +259,18 @@ fn large_plans(random: &mut Random) -> Expected<Sharing> {
         .into_iter()
         .map(|(side, line, number)| (drawn(random, side, line, line[9]), number))
         .collect()
+}
+
+/// A job in each layout with all windows and with those that are none, one side of each.
+fn windows(random: &mut Random) -> Expected<Sharing> {
+    let mut calls = Vec::new();
+    for (side, line) in [(Side::A, SMALL), (Side::B, EXAMPLE), (Side::A, LAYOUT_3)] {
+        let base = drawn(random, side, line, line[9]);
+        for (window, due) in of_plans() {
+            let job = Job::of(&line, window);
+            let call = base.clone();
+            calls.push((Sharing { job, ..call }, due));
+        }
+    }
+    calls
 }

@@ -7,6 +7,7 @@
 //!   computed         fit calls with a number changed
 //!   by_hand          a call of the smallest job
 //!   drawn            a call with random contents
+//!   draw_fit         a random call that is fit
 //!   distinct_points  random points
 
 use crate::cases::draw::{draw_in_layout, nudged, turn};
@@ -45,7 +46,7 @@ pub fn expected(random: &mut Random) -> Expected<Sharing> {
 pub fn by_hand(side: Side, element: u32, mask: u32, host: u32) -> Sharing {
     Sharing {
         side,
-        job: Job::of_line(&[1, 1, 1, 1, 1, 1, 1, 1, 1, 3]),
+        job: Job::of(&[1, 1, 1, 1, 1, 1, 1, 1, 1, 3], [host, 60]),
         job_number: 0,
         host,
         points: vec![1, 2, 3],
@@ -70,9 +71,9 @@ fn done(call: Sharing) -> (Sharing, u32) {
     (call, 0)
 }
 
-/// A call with points 1..N, exact lengths, and matrix and masks drawn at random.
+/// A call with points 1..N, exact lengths, and matrix, masks and window drawn at random.
 pub fn drawn(random: &mut Random, side: Side, line: Line, host: u32) -> Sharing {
-    let job = Job::of_line(&line);
+    let job = Job::of(&line, random.window());
     let q = known_prime(job.modulus);
     let shape = Shape::of(side, &job);
     Sharing {
@@ -239,7 +240,7 @@ fn random_fit(random: &mut Random) -> Expected<Sharing> {
 }
 
 /// A random call that is fit; the round decides on side, layout and modulus.
-fn draw_fit(random: &mut Random, round: u32) -> Sharing {
+pub fn draw_fit(random: &mut Random, round: u32) -> Sharing {
     let side = SIDES[round as usize % 2];
     let (modulus, number) = turn(round / 2);
     let most = if modulus == 1 { 12 } else { 40 };
@@ -262,7 +263,8 @@ pub fn computed(random: &mut Random) -> Vec<Sharing> {
     (0..80)
         .map(|round| {
             let mut call = draw_fit(random, round);
-            call.job = Job::of_line(&nudged(random, call.job.line()));
+            let line = nudged(random, call.job.line());
+            call.job = Job::of(&line, call.job.window());
             call.host = random.within(call.host - 1, call.host + 1);
             call
         })

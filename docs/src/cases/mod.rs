@@ -3,6 +3,7 @@
 //!   counts         how many cases there are of each kind, held to floors
 //!   draw           random plans
 //!   faults         calls with faults put in, one or two at once
+//!   windows        windows and minutes
 //!   tokens         the tokens of a plain text, and the numbers among them
 //!   forms          texts of the same tokens in all forms
 //!   number_faults  texts with a fault in a number
@@ -16,6 +17,7 @@ pub mod folder;
 pub mod forms;
 pub mod number_faults;
 pub mod tokens;
+pub mod windows;
 
 /// Writes a whole file.
 pub fn save(file: &str, bytes: &[u8]) {

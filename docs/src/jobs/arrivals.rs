@@ -31,19 +31,20 @@ pub fn expected(random: &mut Random) -> Expected<JobCall> {
 }
 
 /// An arrival at a job with points 1..N: anything is in the store, hosts 1, 2 and 5 are heard, and
-/// the message is a host's true product.
+/// the message is a host's true product, in a minute of the window.
 pub fn drawn(random: &mut Random, line: Line, host: u32) -> JobCall {
     let whole = WholeJob::drawn(random, line, (1..=line[9]).collect());
     let mut call = whole.call(Act::Arrive);
     call.store = random.words(call.store.len());
     call.heard = 0b10011;
     call.message = whole.message(host);
+    call.minute = random.inside(call.job.window());
     call
 }
 
 /// The faults of an arrival of host 3 at `SMALL` or `LARGE` that are no faults of its plan, in the
 /// order of the tests; the last, a message that is in already, is none.
-const FAULTS: [Fault<JobCall>; 31] = [
+const FAULTS: [Fault<JobCall>; 35] = [
     (21, |call| call.heard |= 1 << 10),
     (21, |call| call.heard = u64::MAX),
     (13, |call| call.store.truncate(79)),
@@ -73,6 +74,10 @@ const FAULTS: [Fault<JobCall>; 31] = [
     (22, |call| call.message[15] ^= 1),
     (12, |call| call.message[7] = 11),
     (12, |call| call.message[7] = 64),
+    (30, |call| call.minute = call.job.opening - 1),
+    (30, |call| call.minute = call.job.closing),
+    (30, |call| call.minute = 0),
+    (30, |call| call.minute = u32::MAX),
     (23, |call| {
         heard_before(call);
         call.store[16] ^= 1;
@@ -92,9 +97,11 @@ fn sizes(call: &mut JobCall, rows: u16, columns: u16) {
 }
 
 /// An arrival of host 3 at `SMALL` or `LARGE`, with elements below 257; some element is above 12, so
-/// that the message has 14 when its modulus is 13, and is fit for all other moduli.
+/// that the message has 14 when its modulus is 13, and is fit for all other moduli. It comes in the
+/// last minute of a short window.
 fn third_host(random: &mut Random, line: Line) -> JobCall {
     let mut call = drawn(random, line, 3);
+    (call.job.opening, call.job.closing, call.minute) = (43200, 43230, 43229);
     let mut elements = random.elements(8, 257);
     elements[3] = 200;
     let bytes = elements.iter().flat_map(|element| element.to_be_bytes());
@@ -122,7 +129,8 @@ fn faults_stored(random: &mut Random) -> Expected<JobCall> {
 fn stored_with_faults(base: &JobCall) -> Expected<JobCall> {
     let lengths = |call: &JobCall| (call.message.len(), call.store.len());
     let mut calls = vec![(base.clone(), ALREADY_IN)];
-    for (due, fault) in FAULTS.into_iter().filter(|fault| fault.0 < 23) {
+    let others = |number: u32| ![23, ALREADY_IN].contains(&number);
+    for (due, fault) in FAULTS.into_iter().filter(|fault| others(fault.0)) {
         let mut call = base.clone();
         fault(&mut call);
         if lengths(&call) == lengths(base) && (1..=10).contains(&call.message[7]) {
@@ -133,8 +141,9 @@ fn stored_with_faults(base: &JobCall) -> Expected<JobCall> {
     calls
 }
 
-/// The damaged messages of reading, given to a job with their number, modulus and sizes. Those
-/// that reading allows are fit but for their host 64, or are not this job's.
+/// The damaged messages of reading, given to a job with their number, modulus and sizes, inside its
+/// window and outside it. Those that reading allows are fit but for their host 64, or are not this
+/// job's.
 fn damaged(random: &mut Random) -> Expected<JobCall> {
     let base = JobCall {
         job_number: FIELDS.job_number,
@@ -142,25 +151,38 @@ fn damaged(random: &mut Random) -> Expected<JobCall> {
     };
     let readings = damage::single_faults(random).into_iter();
     let readings = readings.filter(|(call, _)| call.room >= 4096 && call.message.len() < 100);
-    readings
-        .map(|(reading, due)| {
-            let message = reading.message;
-            let due = if due == 0 { due_of_fit(&message) } else { due };
-            let call = base.clone();
-            (JobCall { message, ..call }, due)
-        })
-        .collect()
+    let mut calls = Vec::new();
+    for (i, (reading, due)) in readings.enumerate() {
+        let message = reading.message;
+        let is_late = i % 3 == 1;
+        let due = if due == 0 {
+            due_of_fit(&message, is_late)
+        } else {
+            due
+        };
+        let mut call = JobCall {
+            message,
+            ..base.clone()
+        };
+        if is_late {
+            call.minute = call.job.closing;
+        }
+        calls.push((call, due));
+    }
+    calls
 }
 
 /// What is due for a message that reading allows: the headers that differ from that of the
 /// reading cases at most in the host are the job's.
-fn due_of_fit(bytes: &[u8]) -> u32 {
+fn due_of_fit(bytes: &[u8], is_late: bool) -> u32 {
     let mut header = message(&FIELDS, &[]);
     header[7] = bytes[7];
     if bytes[..16] != header {
         22
     } else if bytes[7] > 10 {
         12
+    } else if is_late {
+        30
     } else {
         23
     }
@@ -195,7 +217,7 @@ fn foreign_fields(own: Fields) -> Vec<Fields> {
 }
 
 /// Fit messages that are not this job's, from hosts heard and not heard and from host numbers above
-/// N, with any elements of the message's own field.
+/// N, with any elements of the message's own field, inside the window and outside it.
 fn foreign(random: &mut Random) -> Expected<JobCall> {
     let mut calls = Vec::new();
     for line in [SMALL, LARGE] {
@@ -210,9 +232,10 @@ fn foreign(random: &mut Random) -> Expected<JobCall> {
                 let fields = Fields { host, ..other };
                 let q = known_prime(fields.modulus);
                 let elements = random.elements((fields.rows * fields.columns) as usize, q);
-                let message = written(&fields, &elements);
-                let call = base.clone();
-                calls.push((JobCall { message, ..call }, 22));
+                let mut call = base.clone();
+                call.message = written(&fields, &elements);
+                call.minute = random.any_minute(call.job.window());
+                calls.push((call, 22));
             }
         }
     }

@@ -1,4 +1,7 @@
 //! Cases of decodings by themselves, each from hosts heard and a store of its own.
+//!
+//!   expected  all of them
+//!   drawn     a decoding in which nothing is wrong
 
 use super::faults::{last_of, limits, spoilt, spoilt_once, HEARD, LARGE, SMALL};
 use crate::calls::shares::distinct_points;
@@ -27,7 +30,7 @@ pub fn expected(random: &mut Random) -> Expected<JobCall> {
 }
 
 /// A decoding of a job with points 1..N, all hosts heard, with their true products in the store.
-fn drawn(random: &mut Random, line: Line) -> JobCall {
+pub fn drawn(random: &mut Random, line: Line) -> JobCall {
     let whole = WholeJob::drawn(random, line, (1..=line[9]).collect());
     let mut call = whole.call(Act::Decode);
     call.heard = u64::MAX >> (64 - line[9]);

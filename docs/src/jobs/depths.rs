@@ -13,7 +13,7 @@ use crate::calls::depths::edge_points;
 use crate::cases::faults::Expected;
 use crate::sheet::decode::decode;
 use crate::sheet::job_call::{Act, JobCall};
-use crate::sheet::plan::{choose, known_prime, Job, Line};
+use crate::sheet::plan::{choose, known_prime, Job, Line, Window};
 use crate::sheet::plan_check::all_cuts;
 use crate::sheet::random::Random;
 use crate::sheet::share::{Shape, Side};
@@ -27,7 +27,8 @@ pub fn expected(random: &mut Random) -> Expected<JobCall> {
         let q = known_prime(line[0]);
         let at_ends = edge_points(random, line[9], q);
         for points in [at_ends, draw_points(random, line, 1)] {
-            calls.extend(all_largest(line, points, q).map(|call| (call, 0)));
+            let window = random.window();
+            calls.extend(all_largest(line, window, points, q).map(|call| (call, 0)));
         }
     }
     calls
@@ -55,8 +56,8 @@ fn each_threshold(random: &mut Random) -> Vec<Line> {
 
 /// Decodings of a job with all hosts heard: of the true products of matrices and masks that are nothing
 /// but q - 1, so that the table is nothing but s, and of answers that are nothing but q - 1.
-fn all_largest(line: Line, points: Vec<u32>, q: u32) -> [JobCall; 2] {
-    let job = Job::of_line(&line);
+fn all_largest(line: Line, window: Window, points: Vec<u32>, q: u32) -> [JobCall; 2] {
+    let job = Job::of(&line, window);
     let sides = [Side::A, Side::B].map(|side| {
         let shape = Shape::of(side, &job);
         Contents {
@@ -64,7 +65,7 @@ fn all_largest(line: Line, points: Vec<u32>, q: u32) -> [JobCall; 2] {
             masks: vec![q - 1; shape.masks_length()],
         }
     });
-    let whole = WholeJob::of(line, u32::MAX, points, sides);
+    let whole = WholeJob::of(job, u32::MAX, points, sides);
     let mut call = whole.call(Act::Decode);
     call.heard = u64::MAX >> (64 - line[9]);
     call.store = whole.products.concat();
@@ -96,7 +97,8 @@ fn equal_counts(random: &mut Random) -> Vec<JobCall> {
         let matrices = [a, b].map(|element| vec![element; 16384]);
         let sides = masked(random, line, matrices, 2147483647);
         let points = draw_points(random, line, 3);
-        let whole = WholeJob::of(line, random.word(), points, sides);
+        let job = Job::of(&line, random.window());
+        let whole = WholeJob::of(job, random.word(), points, sides);
         assert_eq!(whole.table, [sum]);
         calls.extend(answered(random, &whole));
     }
@@ -111,9 +113,10 @@ fn random_counts(random: &mut Random) -> Vec<JobCall> {
     for below in [[363, 363], [65536, 3], [3, 65536]] {
         let matrices = below.map(|below| random.elements(32768, below));
         let sides = masked(random, line, matrices, 2147483647);
-        let sums = exact(&Job::of_line(&line), &sides);
+        let job = Job::of(&line, random.window());
+        let sums = exact(&job, &sides);
         let points = draw_points(random, line, 3);
-        let whole = WholeJob::of(line, random.word(), points, sides);
+        let whole = WholeJob::of(job, random.word(), points, sides);
         assert!(whole.table.iter().copied().map(u128::from).eq(sums));
         calls.extend(answered(random, &whole));
     }

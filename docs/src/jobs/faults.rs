@@ -13,6 +13,7 @@
 use super::format::BUFFER;
 use crate::calls::messages::{sized, FIELDS};
 use crate::cases::faults::{alone, alone_and_in_pairs, Expected, Fault};
+use crate::cases::windows::WINDOWS;
 use crate::sheet::job_call::{Act, JobCall};
 use crate::sheet::message::{message, Fields, HEADER};
 use crate::sheet::plan::{known_prime, Job, Line};
@@ -25,7 +26,7 @@ pub const LARGE: Line = [4, 4, 3, 8, 2, 1, 2, 2, 1, 10];
 
 /// The faults of the plan of `SMALL`, and of `LARGE`, in the order of the tests; those of number 1 and
 /// the first of each other number are tried together with others.
-const PLAN_FAULTS: [Fault<JobCall>; 30] = [
+const PLAN_FAULTS: [Fault<JobCall>; 34] = [
     (1, |call| call.job.modulus = 5),
     (1, |call| call.job.modulus = 0),
     (1, |call| call.job.modulus = 255),
@@ -49,6 +50,12 @@ const PLAN_FAULTS: [Fault<JobCall>; 30] = [
     (7, |call| call.job.hosts = 0),
     (8, |call| with_hosts(call, 8)),
     (8, |call| call.job.x_b = 2),
+    (29, |call| call.job.closing = call.job.opening),
+    (29, |call| call.job.opening = call.job.closing),
+    (29, |call| call.job.closing = 0),
+    (29, |call| {
+        (call.job.opening, call.job.closing) = (call.job.closing, call.job.opening)
+    }),
     (9, |call| call.points.truncate(9)),
     (9, |call| call.points.push(11)),
     (9, |call| call.points.clear()),
@@ -124,12 +131,13 @@ const LIMITS: [(Line, u32); 31] = [
     ([2, 3073, 1, 1, 1, 1, 1, 1, 1, 4], 13),
 ];
 
-/// Calls on the jobs at the limits, with nothing in the store and no host heard: an arrival of host
-/// 1, which is fit if the job is, or a decoding, for which 24 is due then.
+/// Calls on the jobs at the limits, with windows in turn, nothing in the store and no host heard: an
+/// arrival of host 1 in the last minute, which is fit if the job is, or a decoding, for which 24 is due
+/// then.
 pub fn limits(act: Act) -> Expected<JobCall> {
     let mut calls = Vec::new();
-    for (line, due) in LIMITS {
-        let job = Job::of_line(&line);
+    for ((line, due), &window) in LIMITS.into_iter().zip(WINDOWS.iter().cycle()) {
+        let job = Job::of(&line, window);
         let length = (job.t / job.m * (job.r / job.n) * job.hosts) as usize;
         let fields = Fields {
             modulus: job.modulus,
@@ -144,7 +152,7 @@ pub fn limits(act: Act) -> Expected<JobCall> {
             ..JobCall::telling(vec![0; if length <= BUFFER { length } else { 0 }])
         };
         match act {
-            Act::Arrive => call.message = message(&fields, &[0]),
+            Act::Arrive => (call.message, call.minute) = (message(&fields, &[0]), job.closing - 1),
             _ => call.room = (job.t * job.r).min(4096) as usize,
         }
         let due = match act {

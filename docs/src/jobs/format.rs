@@ -1,16 +1,17 @@
 //! The file format of calls on whole jobs and of their outcomes. A word is 4 bytes, big-endian.
 //!
-//! A case is 19 words, two lists of words, and a list of bytes:
+//! A case is 22 words, two lists of words, and a list of bytes:
 //!
 //!   0       the call: 1 arrival, 2 decoding, 3 tell the store
-//!   1..=11  the job: modulus number, t, s, r, m, p, n, X_A, X_B, N, job number
-//!   12, 13  the hosts heard that the call is given, the high word and the low one
-//!   14      length of list 1: the points
-//!   15      the length of the store that the call is given, in elements
-//!   16      1 if the store's elements are given as list 2, of the length in word 15; 0 if list 2
+//!   1..=13  the job: modulus number, t, s, r, m, p, n, X_A, X_B, N, job number, opening, closing
+//!   14, 15  the hosts heard that the call is given, the high word and the low one
+//!   16      length of list 1: the points
+//!   17      the length of the store that the call is given, in elements
+//!   18      1 if the store's elements are given as list 2, of the length in word 17; 0 if list 2
 //!           is empty and the store is as the call before left it
-//!   17      length of the list of bytes: the message of an arrival
-//!   18      the length of the table that a decoding is given, in elements
+//!   19      length of the list of bytes: the message of an arrival
+//!   20      the minute of an arrival
+//!   21      the length of the table that a decoding is given, in elements
 //!
 //! The store is the front of a buffer of 12,288 elements, which keeps all that it holds from case
 //! to case; list 2 replaces the front of it before the call. No case that leaves the store as it was
@@ -129,12 +130,11 @@ fn case(call: &JobCall, replaced: bool) -> Vec<u8> {
         Act::Decode => 2,
         Act::Tell => 3,
     }];
-    head.extend(call.job.line());
-    head.push(call.job_number);
+    head.extend(call.job.numbers(call.job_number));
     head.extend(halves(call.heard));
     head.extend([call.points.len() as u32, call.store.len() as u32]);
     head.extend([u32::from(replaced), call.message.len() as u32]);
-    head.push(call.room as u32);
+    head.extend([call.minute, call.room as u32]);
     let mut bytes = words(&head);
     bytes.extend(words(&call.points));
     if replaced {

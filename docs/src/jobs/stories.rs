@@ -35,8 +35,8 @@ fn checked_by_hand(random: &mut Random) -> Vec<JobCall> {
         matrix: vec![element],
         masks: vec![mask],
     };
-    let line = [1, 1, 1, 1, 1, 1, 1, 1, 1, 3];
-    let whole = WholeJob::of(line, 0, vec![1, 2, 3], [contents(5, 7), contents(4, 9)]);
+    let job = Job::of(&[1, 1, 1, 1, 1, 1, 1, 1, 1, 3], [10, 20]);
+    let whole = WholeJob::of(job, 0, vec![1, 2, 3], [contents(5, 7), contents(4, 9)]);
     assert_eq!(whole.products, [[0], [2], [0]]);
     assert_eq!((whole.needed, &whole.table[..]), (3, &[7][..]));
     let mut calls = Vec::new();
@@ -109,8 +109,9 @@ pub fn draw_points(random: &mut Random, line: Line, kind: u32) -> Vec<u32> {
     }
 }
 
-/// The whole story of a job: all hosts answer in random order, so many of them falsely at first,
-/// and up to so many other calls are made between. Decoding is tried at K - 1, at K and with all.
+/// The whole story of a job: all hosts answer in random order, so many of them falsely at first, and
+/// up to so many other calls are made between, and some outside the window. Decoding is tried at K -
+/// 1, at K and with all.
 fn disturbed(random: &mut Random, whole: &WholeJob, liars: usize, others: u32) -> Vec<JobCall> {
     let hosts = whole.job.hosts;
     let liars = random.order(hosts)[..liars].to_vec();
@@ -118,6 +119,7 @@ fn disturbed(random: &mut Random, whole: &WholeJob, liars: usize, others: u32) -
     for host in random.order(hosts) {
         let between = random.within(0, others) / hosts + u32::from(random.within(0, 2) == 0);
         (0..between).for_each(|_| disturb(random, &mut story));
+        outside(&mut random.clock(), &mut story);
         if liars.contains(&host) {
             story.answers_falsely(random, host);
         }
@@ -159,6 +161,20 @@ fn repeated(random: &mut Random, story: &mut Story) {
     } else {
         story.answers_falsely(random, host);
     }
+}
+
+/// Here and there a host, heard or not, sends its true product or other elements outside the window.
+fn outside(random: &mut Random, story: &mut Story) {
+    if random.within(0, 7) > 0 {
+        return;
+    }
+    let minute = random.outside(story.whole.job.window());
+    let host = random.within(1, story.whole.job.hosts);
+    let mut elements = story.whole.products[host as usize - 1].clone();
+    if random.within(0, 1) == 0 {
+        elements.fill(random.within(0, story.whole.q - 1));
+    }
+    story.answers_at(minute, host, &elements);
 }
 
 /// A host that sent its true product sends it with another first element, with another last one, and
@@ -208,17 +224,17 @@ const DAMAGES: [(u32, fn(&mut Vec<u8>)); 21] = [
     }),
 ];
 
-/// A message of any host arrives damaged.
+/// A message of any host arrives damaged, in any minute.
 fn damaged(random: &mut Random, story: &mut Story) {
     let (due, damage) = DAMAGES[random.index(DAMAGES.len())];
-    let mut call = story.next(Act::Arrive);
+    let mut call = story.arrival(random);
     call.message = story.whole.message(random.within(1, story.whole.job.hosts));
     damage(&mut call.message);
     story.changes_nothing(call, due);
 }
 
-/// A message arrives that is fit for another job: another kind, job number, modulus, or other
-/// sizes. Its elements are all 0, which every modulus allows.
+/// A message arrives in any minute that is fit for another job: another kind, job number, modulus, or
+/// other sizes. Its elements are all 0, which every modulus allows.
 fn foreign(random: &mut Random, story: &mut Story) {
     let own = story.whole.fields(random.within(1, story.whole.job.hosts));
     let Fields { rows, columns, .. } = own;
@@ -232,13 +248,13 @@ fn foreign(random: &mut Random, story: &mut Story) {
         5 => fields.columns = columns + 1,
         _ => fields.rows = rows + 1,
     }
-    let mut call = story.next(Act::Arrive);
+    let mut call = story.arrival(random);
     call.message = message(&fields, &vec![0; (fields.rows * fields.columns) as usize]);
     story.changes_nothing(call, 22);
 }
 
-/// A message arrives that is fit but for a host above N; where N is 64 there is none, and the next
-/// number is no host of any job.
+/// A message arrives in any minute that is fit but for a host above N; where N is 64 there is none,
+/// and the next number is no host of any job.
 fn above(random: &mut Random, story: &mut Story) {
     let hosts = story.whole.job.hosts;
     let host = if random.within(0, 1) == 0 {
@@ -246,7 +262,7 @@ fn above(random: &mut Random, story: &mut Story) {
     } else {
         64.max(hosts + 1)
     };
-    let mut call = story.next(Act::Arrive);
+    let mut call = story.arrival(random);
     let elements = &story.whole.products[0];
     call.message = message(&story.whole.fields(host), elements);
     story.changes_nothing(call, 12);
@@ -336,7 +352,8 @@ fn fillings(random: &mut Random) -> Vec<JobCall> {
                 masks: vec![mask; masks],
             });
             let points = draw_points(random, line, 3);
-            let whole = WholeJob::of(line, job_number, points, sides);
+            let job = Job::of(&line, random.window());
+            let whole = WholeJob::of(job, job_number, points, sides);
             calls.extend(disturbed(random, &whole, 0, 6));
         }
     }

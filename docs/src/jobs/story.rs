@@ -1,6 +1,6 @@
 //! A story: calls on one job, one after another, each given the hosts heard and the store as the
 //! one before left them. It keeps a list of its own of the hosts with a fit message and of the
-//! elements of their first ones, and holds each outcome to demand 3 and to U1.
+//! elements of their first ones, and holds each outcome to demand 3, to U1 and to U7.
 //!
 //!   Story  the calls so far and what they left
 
@@ -53,6 +53,14 @@ impl Story<'_> {
         }
     }
 
+    /// An arrival inside the window or outside it; its message is still to be put in.
+    pub fn arrival(&self, random: &mut Random) -> JobCall {
+        JobCall {
+            minute: random.any_minute(self.whole.job.window()),
+            ..self.next(Act::Arrive)
+        }
+    }
+
     /// Makes a call that changes nothing: it must be refused with this number, or be in already.
     /// After each third arrival of this kind the store is told, if it is small.
     pub fn changes_nothing(&mut self, call: JobCall, due: u32) {
@@ -65,11 +73,23 @@ impl Story<'_> {
         }
     }
 
-    /// A message arrives from a host with these elements: it is taken if the host has none in yet,
-    /// it is in already if the host's first had the same elements, else it is refused with 23.
+    /// A message arrives from a host with these elements, in any minute of the window.
     pub fn answers(&mut self, host: u32, elements: &[u32]) {
+        let minutes = &mut Random::new(self.calls.len() as u64);
+        let minute = minutes.inside(self.whole.job.window());
+        self.answers_at(minute, host, elements);
+    }
+
+    /// A message arrives from a host with these elements in a minute: outside the window it is
+    /// refused with 30. Inside it is taken if the host has none in yet, it is in already if the
+    /// host's first had the same elements, else it is refused with 23.
+    pub fn answers_at(&mut self, minute: u32, host: u32, elements: &[u32]) {
         let mut call = self.next(Act::Arrive);
-        call.message = written(&self.whole.fields(host), elements);
+        (call.minute, call.message) = (minute, written(&self.whole.fields(host), elements));
+        let [opening, closing] = self.whole.job.window();
+        if !(opening..closing).contains(&minute) {
+            return self.changes_nothing(call, 30);
+        }
         match self.firsts.get(&host) {
             None => self.takes(call, host, elements),
             Some(first) if first == elements => self.changes_nothing(call, ALREADY_IN),
@@ -96,14 +116,20 @@ impl Story<'_> {
         self.answers(host, &whole.products[host as usize - 1]);
     }
 
-    /// A fit message of a host arrives whose elements are any other block.
+    /// A message of a host arrives inside the window whose elements are any other block.
     pub fn answers_falsely(&mut self, random: &mut Random, host: u32) {
+        let minute = random.inside(self.whole.job.window());
+        self.answers_falsely_at(random, minute, host);
+    }
+
+    /// A message of a host arrives in a minute whose elements are any other block.
+    pub fn answers_falsely_at(&mut self, random: &mut Random, minute: u32, host: u32) {
         let truth = &self.whole.products[host as usize - 1];
         let mut elements = random.elements(truth.len(), self.whole.q);
         if elements == *truth {
             elements[0] = (elements[0] + 1) % self.whole.q;
         }
-        self.answers(host, &elements);
+        self.answers_at(minute, host, &elements);
     }
 
     /// Panics unless the hosts heard are those with a fit message, and the store holds the elements

@@ -8,7 +8,7 @@
 mod format;
 mod layouts;
 pub mod malformed;
-mod plans;
+pub mod plans;
 
 use crate::cases::counts::{hold, Counts, Floors};
 use crate::cases::save;

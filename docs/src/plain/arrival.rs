@@ -3,14 +3,15 @@
 use crate::message::{examine, read_elements, same_elements, Header};
 use crate::plan::{plan, Job, Plan};
 
-/// Takes an answer's message: its elements go to its host's block of the store. One that is in
-/// already changes nothing. The hosts heard then.
+/// Takes an answer's message at a minute: its elements go to its host's block of the store. One that is
+/// in already changes nothing. The hosts heard then.
 pub fn arrive(
     job: &Job,
     points: &[u32],
     heard: u64,
     store: &mut [u32],
     message: &[u8],
+    minute: u32,
 ) -> Result<u64, u32> {
     let plan = plan(job, points)?;
     test_heard(job, heard)?;
@@ -24,6 +25,9 @@ pub fn arrive(
     }
     if header.host > job.hosts {
         return Err(12);
+    }
+    if !(job.opening..job.closing).contains(&minute) {
+        return Err(30);
     }
     let place = header.host as usize - 1;
     let block = &mut store[place * size..][..size];

@@ -1,9 +1,10 @@
-//! Planning: the tests 1 to 11 of a job's numbers and points, the layout and K.
+//! Planning: the tests 1 to 11 and 29 of a job's numbers and points, the layout and K.
 
 use crate::field::prime;
 use crate::MOST;
 
-/// A job's public numbers.
+/// A job's public numbers and its window: answers are taken from the minute opening on and up to the one
+/// before the minute closing.
 #[derive(Clone, Copy)]
 pub struct Job {
     pub modulus: u32,
@@ -17,6 +18,8 @@ pub struct Job {
     pub xb: u32,
     pub hosts: u32,
     pub number: u32,
+    pub opening: u32,
+    pub closing: u32,
 }
 
 /// The exponents of a layout: A(k,l) has k · stride_a + l, B(l,j) has j · stride_b + p − 1 − l, C(k,j)
@@ -128,6 +131,9 @@ pub fn plan(job: &Job, points: &[u32]) -> Result<Plan, u32> {
     let layout = Layout::choose(job);
     if layout.needed > job.hosts {
         return Err(8);
+    }
+    if job.closing <= job.opening {
+        return Err(29);
     }
     test_points(q, job.hosts, points)?;
     Ok(Plan {

@@ -1,4 +1,4 @@
-//! Arrivals of answers (01, "Arrivals" and "Arrival" among what is turned down; 02, U1).
+//! Arrivals of answers (01, "Arrivals" and "Arrival" among what is turned down; 02, U1 and U7).
 //!
 //!   Arrived  what becomes of an arrival that no refusal number fits
 //!   arrive   what becomes of an arrival, or the first refusal number that fits
@@ -28,6 +28,9 @@ pub fn arrive(call: &JobCall) -> Result<Arrived, u32> {
     }
     if fields.host > call.job.hosts {
         return Err(12);
+    }
+    if call.minute < call.job.opening || call.minute >= call.job.closing {
+        return Err(30);
     }
     if call.is_heard(fields.host) {
         return match stored(call, fields.host) {

@@ -18,7 +18,8 @@ pub enum Act {
 }
 
 /// A call: the job's numbers and points, the hosts heard and the store; then the message of an
-/// arrival, or the length of a decoding's table. A call that tells the store has the store alone.
+/// arrival and its minute, or the length of a decoding's table. A decoding has no minute. A call that
+/// tells the store has the store alone.
 #[derive(Clone)]
 pub struct JobCall {
     pub act: Act,
@@ -28,6 +29,7 @@ pub struct JobCall {
     pub heard: u64,
     pub store: Vec<u32>,
     pub message: Vec<u8>,
+    pub minute: u32,
     pub room: usize,
 }
 
@@ -36,12 +38,13 @@ impl JobCall {
     pub fn telling(store: Vec<u32>) -> JobCall {
         JobCall {
             act: Act::Tell,
-            job: Job::of_line(&[0; 10]),
+            job: Job::of(&[0; 10], [0, 0]),
             job_number: 0,
             points: Vec::new(),
             heard: 0,
             store,
             message: Vec::new(),
+            minute: 0,
             room: 0,
         }
     }

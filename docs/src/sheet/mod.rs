@@ -1,7 +1,8 @@
 //! The sheet's calls, worked out from the papers.
 //!
 //!   random       a small deterministic generator with a fixed seed
-//!   plan         the tests of a plan, the three layouts, the recovery threshold K, the choice
+//!   plan         a job with its window, the tests of a plan, the three layouts, the recovery threshold
+//!                K, the choice
 //!   plan_check   the plan against brute force and against the values checked by hand
 //!   listing      the plan lister's text in and out
 //!   share        the shares of A and of B
@@ -18,6 +19,8 @@
 //!   decode       the table, decoded
 //!   whole_job    a job with its matrices and masks, its true products and its table
 //!   sums_check   sums of products against what they must be where every element is q - 1
+//!   window_check
+//!                windows against lists of their minutes
 
 pub mod arrival;
 pub mod decode;
@@ -37,3 +40,4 @@ pub mod share;
 pub mod signed;
 pub mod sums_check;
 pub mod whole_job;
+pub mod window_check;

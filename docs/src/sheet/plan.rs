@@ -1,12 +1,15 @@
-//! The plan of a job (01, "The job", "Exponents" and "What is turned down"; 02, U2 and U4).
+//! The plan of a job (01, "The job", "Exponents" and "What is turned down"; 02, U2, U4 and U7).
 //!
 //!   Line         a job's numbers as the lister reads them
-//!   Job          the public numbers that the plan's tests look at
+//!   Window       an opening and a closing minute
+//!   Job          the numbers that the plan's tests look at
 //!   prime        the modulus q of a modulus number
 //!   known_prime  the same where there is one for certain
 //!   primes       the modulus numbers, each with its prime
 //!   moduli       the modulus numbers
-//!   refusal      the first of the numbers 1 to 11 that fits a job and its evaluation points
+//!   refusal      the first of the numbers 1 to 11 and 29 that fits a job and its evaluation points
+//!   Planning     a call that plans a job
+//!   plan         what it gives, or the first refusal number that fits
 //!   Layout       the exponents of blocks and masks, the places of C, the recovery threshold K
 //!   layouts      the three layouts, by number
 //!   thresholds   the recovery thresholds of the three
@@ -17,7 +20,11 @@ use std::ops::RangeInclusive;
 /// The ten numbers that the lister reads: modulus number, t, s, r, m, p, n, X_A, X_B, N.
 pub type Line = [u32; 10];
 
-/// A job's public numbers, in the order in which the lister reads them.
+/// An opening and a closing minute.
+pub type Window = [u32; 2];
+
+/// A job's public numbers, in the order in which the lister reads them, and its opening and closing
+/// minute. The job number is kept apart: no test of a plan looks at it.
 #[derive(Clone, Copy)]
 pub struct Job {
     pub modulus: u32,
@@ -30,11 +37,19 @@ pub struct Job {
     pub x_a: u32,
     pub x_b: u32,
     pub hosts: u32,
+    pub opening: u32,
+    pub closing: u32,
 }
 
 impl Job {
-    /// The job whose numbers stand in a line of ten.
+    /// The job whose numbers stand in a line of ten. The lister knows no window, so it is one that no
+    /// test of a plan sees: the first minute.
     pub fn of_line(line: &Line) -> Job {
+        Job::of(line, [0, 1])
+    }
+
+    /// The job whose numbers stand in a line of ten, with a window.
+    pub fn of(line: &Line, [opening, closing]: Window) -> Job {
         let [modulus, t, s, r, m, p, n, x_a, x_b, hosts] = *line;
         Job {
             modulus,
@@ -47,10 +62,12 @@ impl Job {
             x_a,
             x_b,
             hosts,
+            opening,
+            closing,
         }
     }
 
-    /// The job's numbers as a line of ten.
+    /// The job's numbers as a line of ten, without its window.
     pub fn line(&self) -> Line {
         let Job {
             modulus,
@@ -63,8 +80,20 @@ impl Job {
             x_a,
             x_b,
             hosts,
+            ..
         } = *self;
         [modulus, t, s, r, m, p, n, x_a, x_b, hosts]
+    }
+
+    /// The job's window.
+    pub fn window(&self) -> Window {
+        [self.opening, self.closing]
+    }
+
+    /// The thirteen numbers of the job with this job number: the line of ten, the job number, the
+    /// window.
+    pub fn numbers(&self, job_number: u32) -> Vec<u32> {
+        [&self.line()[..], &[job_number], &self.window()].concat()
     }
 }
 
@@ -100,7 +129,7 @@ pub fn refusal(job: &Job, points: &[u32]) -> Option<u32> {
     number_refusal(job).or_else(|| point_refusal(job, points))
 }
 
-/// The tests 1 to 8, on the numbers alone.
+/// The tests 1 to 8 and then 29, on the numbers alone.
 fn number_refusal(job: &Job) -> Option<u32> {
     let Some(q) = prime(job.modulus) else {
         return Some(1);
@@ -126,11 +155,14 @@ fn number_refusal(job: &Job) -> Option<u32> {
     if choose(job).needed > job.hosts {
         return Some(8);
     }
+    if job.closing <= job.opening {
+        return Some(29);
+    }
     None
 }
 
-/// The tests 9 to 11, on the evaluation points of a job that passed 1 to 8. Test 9 is on the
-/// whole list; 10 and 11 go point by point, so the first bad point decides.
+/// The tests 9 to 11, on the evaluation points of a job that passed those on its numbers. Test 9 is
+/// on the whole list; 10 and 11 go point by point, so the first bad point decides.
 fn point_refusal(job: &Job, points: &[u32]) -> Option<u32> {
     let q = prime(job.modulus)?;
     if points.len() != job.hosts as usize {
@@ -147,14 +179,38 @@ fn point_refusal(job: &Job, points: &[u32]) -> Option<u32> {
     None
 }
 
+/// A call that plans a job.
+#[derive(Clone)]
+pub struct Planning {
+    pub job: Job,
+    pub job_number: u32,
+    pub points: Vec<u32>,
+}
+
+/// The number of the layout that is used, its K, and the rows, inner side and columns of the blocks;
+/// or the first refusal number that fits.
+pub fn plan(call: &Planning) -> Result<[u32; 5], u32> {
+    let job = &call.job;
+    if let Some(number) = refusal(job, &call.points) {
+        return Err(number);
+    }
+    let (layout, [rows, inner, columns]) = (choose(job), block_sides(job));
+    Ok([layout.number, layout.needed, rows, inner, columns])
+}
+
 /// Whether each number lies in low..high, both included.
 pub fn all_within(numbers: &[u32], low: u32, high: u32) -> bool {
     numbers.iter().all(|number| (low..=high).contains(number))
 }
 
+/// The rows of A blocks, their columns, which are the rows of B blocks, and the columns of B blocks.
+fn block_sides(job: &Job) -> [u32; 3] {
+    [job.t / job.m, job.s / job.p, job.r / job.n]
+}
+
 /// How many elements an A block, a B block and an answer block hold.
 fn block_sizes(job: &Job) -> [u32; 3] {
-    let (rows, inner, columns) = (job.t / job.m, job.s / job.p, job.r / job.n);
+    let [rows, inner, columns] = block_sides(job);
     [rows * inner, inner * columns, rows * columns]
 }
 

@@ -55,6 +55,8 @@ pub fn cut(m: u32, p: u32, n: u32, x_a: u32, x_b: u32) -> Job {
         x_a,
         x_b,
         hosts: 64,
+        opening: 0,
+        closing: 1,
     }
 }
 

@@ -45,8 +45,7 @@ pub struct WholeJob {
 
 impl WholeJob {
     /// The job with these numbers, points and contents of A and B.
-    pub fn of(line: Line, job_number: u32, points: Vec<u32>, sides: [Contents; 2]) -> WholeJob {
-        let job = Job::of_line(&line);
+    pub fn of(job: Job, job_number: u32, points: Vec<u32>, sides: [Contents; 2]) -> WholeJob {
         let q = known_prime(job.modulus);
         let hosts = 1..=job.hosts;
         WholeJob {
@@ -60,12 +59,12 @@ impl WholeJob {
         }
     }
 
-    /// A job with random matrices, masks and job number.
+    /// A job with random matrices, masks, job number and window.
     pub fn drawn(random: &mut Random, line: Line, points: Vec<u32>) -> WholeJob {
-        let job = Job::of_line(&line);
+        let job = Job::of(&line, random.window());
         let q = known_prime(job.modulus);
         let sides = [Side::A, Side::B].map(|side| Contents::drawn(random, side, &job, q));
-        WholeJob::of(line, random.word(), points, sides)
+        WholeJob::of(job, random.word(), points, sides)
     }
 
     /// The fields of a host's answer.
@@ -90,8 +89,8 @@ impl WholeJob {
         self.products.len() * answer_length(&self.job)
     }
 
-    /// A call with everything in it that the job says: no host is heard, the store is all 0 and the
-    /// table has exact length. An arrival's message is still to be put in.
+    /// A call with everything in it that the job says: no host is heard, the store is all 0, the table
+    /// has exact length, and an arrival comes in the opening minute. Its message is still to be put in.
     pub fn call(&self, act: Act) -> JobCall {
         JobCall {
             act,
@@ -101,6 +100,10 @@ impl WholeJob {
             heard: 0,
             store: vec![0; self.store_length()],
             message: Vec::new(),
+            minute: match act {
+                Act::Arrive => self.job.opening,
+                _ => 0,
+            },
             room: match act {
                 Act::Decode => self.table.len(),
                 _ => 0,

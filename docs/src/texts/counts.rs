@@ -1,12 +1,13 @@
-//! Texts with a section that is short or long, and README's job with each number dropped or doubled.
+//! Texts with a section that is short or long, and README's job with each number, and each answer, dropped
+//! or doubled.
 //!
 //!   counts  all of them
 
 use std::ops::Range;
 
-use super::job_text::{sectioned, JobText, Parts};
+use super::job_text::{sectioned, Answer, JobText, Parts};
 use super::jobs::{drawn, IN_EACH_LAYOUT};
-use super::printed::{count_line, JOB_NUMBERS};
+use super::printed::{count_line, odd_line, JOB_NUMBERS};
 use super::sections::WORDS;
 use crate::cases::folder::Case;
 use crate::cases::tokens::lines;
@@ -27,7 +28,7 @@ pub fn counts(random: &mut Random) -> Vec<Case> {
     .concat()
 }
 
-/// The section JOB with up to ten numbers, and with some too many.
+/// The section JOB with up to twelve numbers, and with some too many.
 fn few_in_job() -> Vec<Case> {
     let by_hand = JobText::by_hand().parts();
     let cases = (0..20).filter(|&has| has != JOB_NUMBERS).map(|has| {
@@ -57,7 +58,14 @@ fn miscounted(numbers: &[u32]) -> [Vec<u32>; 6] {
     ]
 }
 
-/// Jobs in each layout with one section short or long. Any number of answers is fit.
+/// The answers of a list of numbers.
+fn answers(numbers: &[u32]) -> Vec<Answer> {
+    let pairs = numbers.chunks_exact(2);
+    pairs.map(|pair| [pair[0], pair[1]]).collect()
+}
+
+/// Jobs in each layout with one section short or long. Any number of answers is fit, but not one
+/// without a minute.
 fn one_section(random: &mut Random) -> Vec<Case> {
     let mut cases = Vec::new();
     for job in bases(random) {
@@ -69,12 +77,17 @@ fn one_section(random: &mut Random) -> Vec<Case> {
                 cases.push((with(&parts, section, numbers), due));
             }
         }
-        for order in miscounted(&job.order) {
-            let due = JobText {
-                order: order.clone(),
-                ..job.clone()
+        for numbers in miscounted(&parts[6]) {
+            let order = answers(&numbers);
+            let due = match numbers.len() == 2 * order.len() {
+                true => JobText {
+                    order,
+                    ..job.clone()
+                }
+                .due(),
+                false => odd_line(numbers.len(), 7),
             };
-            cases.push((with(&parts, 6, order), due.due()));
+            cases.push((with(&parts, 6, numbers), due));
         }
     }
     cases
@@ -93,7 +106,7 @@ fn two_sections(random: &mut Random) -> Vec<Case> {
     let mut cases = Vec::new();
     for job in bases(random) {
         let parts = job.parts();
-        for later in 1..6_usize {
+        for later in 1..7_usize {
             for earlier in later.saturating_sub(2)..later {
                 let needs = parts[earlier].len();
                 let mut on = parts.clone();
@@ -112,7 +125,8 @@ fn two_sections(random: &mut Random) -> Vec<Case> {
     cases
 }
 
-/// README's job as it stands, with line ends of each kind, and with each number dropped and doubled.
+/// README's job as it stands, with line ends of each kind, and with each number and each answer
+/// dropped and doubled.
 fn sample() -> Vec<Case> {
     let job = sample_job();
     let mut cases = Vec::new();
@@ -122,50 +136,63 @@ fn sample() -> Vec<Case> {
         cases.push((text, job.due()));
     }
     let numbers = sample_numbers();
-    assert_eq!(numbers.len(), 126);
-    for (section, index, bytes) in numbers {
+    for (section, bytes) in numbers.clone() {
         for doubled in [false, true] {
-            let digits = &SAMPLE[bytes.clone()];
-            let digits = [digits, " ", digits].concat();
-            let mut text = SAMPLE.to_string();
-            text.replace_range(bytes.clone(), if doubled { &digits } else { "" });
-            let due = sample_due(&job, section, index, doubled);
-            cases.push((text.into_bytes(), due));
+            let text = changed(bytes.clone(), doubled);
+            cases.push((text, sample_due(&job, section, doubled)));
+        }
+    }
+    let (_, others) = numbers.split_at(numbers.len() - 2 * job.order.len());
+    for (index, pair) in others.chunks_exact(2).enumerate() {
+        for doubled in [false, true] {
+            let text = changed(pair[0].1.start..pair[1].1.end, doubled);
+            let mut job = job.clone();
+            match doubled {
+                true => job.order.insert(index, job.order[index]),
+                false => drop(job.order.remove(index)),
+            }
+            cases.push((text, job.due()));
         }
     }
     cases
 }
 
+/// README's job with some bytes doubled or dropped.
+fn changed(bytes: Range<usize>, doubled: bool) -> Vec<u8> {
+    let old = &SAMPLE[bytes.clone()];
+    let new = if doubled {
+        format!("{old} {old}")
+    } else {
+        String::new()
+    };
+    let mut text = SAMPLE.to_string();
+    text.replace_range(bytes, &new);
+    text.into_bytes()
+}
+
 /// What is due where a number of a section of README's job is dropped or doubled.
-fn sample_due(job: &JobText, section: usize, index: usize, doubled: bool) -> String {
+fn sample_due(job: &JobText, section: usize, doubled: bool) -> String {
     let needs = job.parts()[section].len();
-    if section == 6 {
-        let mut job = job.clone();
-        match doubled {
-            true => job.order.insert(index, job.order[index]),
-            false => drop(job.order.remove(index)),
-        }
-        return job.due();
-    }
     let is_word = |line: &str| line.split(' ').next() == Some(WORDS[section]);
     let line = SAMPLE.lines().position(is_word).expect("a word") + 1;
     let has = if doubled { needs + 1 } else { needs - 1 };
-    count_line(section, has, needs, line)
+    match section {
+        6 => odd_line(has, line),
+        _ => count_line(section, has, needs, line),
+    }
 }
 
-/// The numbers of README's job: the section of each, its index there, and its bytes.
-fn sample_numbers() -> Vec<(usize, usize, Range<usize>)> {
-    let (mut numbers, mut begin) = (Vec::new(), 0);
-    let (mut sections, mut index) = (0, 0);
+/// The numbers of README's job: the section of each, and its bytes.
+fn sample_numbers() -> Vec<(usize, Range<usize>)> {
+    let (mut numbers, mut begin, mut sections) = (Vec::new(), 0, 0);
     for line in SAMPLE.split_inclusive('\n') {
         let bare = line.split(['#', '\n']).next().unwrap_or("");
         let mut at = begin;
         for token in bare.split(' ') {
             if token.starts_with(|c: char| c.is_ascii_digit()) {
-                numbers.push((sections - 1, index, at..at + token.len()));
-                index += 1;
+                numbers.push((sections - 1, at..at + token.len()));
             } else if !token.is_empty() {
-                (sections, index) = (sections + 1, 0);
+                sections += 1;
             }
             at += token.len() + 1;
         }
@@ -174,20 +201,23 @@ fn sample_numbers() -> Vec<(usize, usize, Range<usize>)> {
     numbers
 }
 
-/// README's job.
+/// README's job: nine hosts, A and B of 24 elements each, and masks of as many.
 fn sample_job() -> JobText {
     let mut parts: Parts = Default::default();
-    for (section, _, bytes) in sample_numbers() {
+    for (section, bytes) in sample_numbers() {
         let number = SAMPLE[bytes].parse().expect("a number");
         parts[section].push(number);
     }
+    let counts = parts.each_ref().map(Vec::len);
+    assert_eq!(counts[..6], [JOB_NUMBERS, 9, 24, 24, 24, 24]);
     let [job, points, a, b, a_masks, b_masks, order] = parts;
     let sides = [(a, a_masks), (b, b_masks)];
     JobText {
         line: job[..10].try_into().expect("ten numbers"),
         job_number: job[10],
+        window: [job[11], job[12]],
         points,
         sides: sides.map(|(matrix, masks)| Contents { matrix, masks }),
-        order,
+        order: answers(&order),
     }
 }

@@ -5,8 +5,8 @@
 //!   forms    texts of all forms
 //!   lengths  texts as long as can be, with very many numbers too, and texts that are too long
 
-use super::job_text::{sectioned, tokens, JobText, Parts};
-use super::printed::{count_line, JOB_NUMBERS, MOST_TEXT, TOO_LONG};
+use super::job_text::{sectioned, tokens, Answer, JobText, Parts};
+use super::printed::{count_line, odd_line, JOB_NUMBERS, MOST_TEXT, TOO_LONG};
 use super::sections::expected_line;
 use crate::cases::folder::Case;
 use crate::cases::forms::{self, filled_up, padded};
@@ -67,24 +67,25 @@ fn line_ends() -> Vec<Case> {
     cases
 }
 
-/// The largest numbers that fit, as a job number and as a host.
+/// The largest numbers that fit, as a job number, as a closing minute, as a host and as a minute; and
+/// 0 as a job number and as an opening minute.
 fn large_numbers() -> Vec<Case> {
-    let mut cases = Vec::new();
-    for digits in [
-        "0",
-        "000",
-        "4294967295",
-        "0000000000004294967295",
-        "4000000000",
-    ] {
+    let zeros = ["0", "000"];
+    let large = ["4294967295", "0000000000004294967295", "4000000000"];
+    let put = |(number, digits): (usize, &str)| {
         let mut tokens = tokens(&parts());
-        tokens[JOB_NUMBERS] = digits.into();
-        cases.push(fit(tokens.join(&b' ')));
-    }
-    for host in [u32::MAX, u32::MAX - 1, 1 << 31, 999_999_999] {
-        let mut job = JobText::by_hand();
-        job.order.insert(1, host);
-        cases.push(job.case());
+        tokens[number] = digits.into();
+        fit(tokens.join(&b' '))
+    };
+    let numbers = [(11, &zeros[..]), (11, &large), (12, &zeros), (13, &large)];
+    let pairs = numbers.map(|(number, list)| list.iter().map(move |&digits| (number, digits)));
+    let mut cases: Vec<Case> = pairs.into_iter().flatten().map(put).collect();
+    for large in [u32::MAX, u32::MAX - 1, 1 << 31, 999_999_999] {
+        for answer in [[large, 5], [2, large], [large, large]] {
+            let mut job = JobText::by_hand();
+            job.order.insert(1, answer);
+            cases.push(job.case());
+        }
     }
     cases
 }
@@ -105,10 +106,10 @@ fn filled(section: usize, count: usize, number: u32) -> Vec<u8> {
 /// mark; as many numbers as there can be in a section.
 fn longest() -> Vec<Case> {
     let length = MOST_TEXT - 1;
-    let many = |first: &[u32], others: u32| {
+    let many = |first: &[Answer], others: Answer| {
         let mut job = JobText::by_hand();
         job.order = Vec::new();
-        let left = (length - job.text().len()) / 2;
+        let left = (length - job.text().len()) / 4;
         job.order = first.to_vec();
         job.order.resize(left, others);
         (padded(&job.text(), length, b'\n'), job.due())
@@ -116,19 +117,24 @@ fn longest() -> Vec<Case> {
     let (line, column) = (1, MOST_TEXT);
     let mut cases: Vec<Case> = filled_up(&bare(), length).into_iter().map(fit).collect();
     cases.extend([
-        many(&[3, 1, 2], 1),
-        many(&[], 1),
-        many(&[], 9),
+        many(&[[3, 2], [1, 8], [2, 5]], [1, 5]),
+        many(&[], [1, 5]),
+        many(&[], [1, 9]),
+        many(&[], [9, 5]),
         (
             padded(b"JOB ", length, b'0'),
             expected_line(1, Position { line, column }),
         ),
     ]);
-    for (section, needs) in [(0, 11), (1, 3), (2, 1), (3, 1), (4, 1), (5, 1)] {
+    for (section, needs) in [(0, JOB_NUMBERS), (1, 3), (2, 1), (3, 1), (4, 1), (5, 1)] {
         let count = (length - filled(section, 0, 0).len()) / 2;
         let text = padded(&filled(section, count, 1), length, b'\n');
         cases.push((text, count_line(section, count, needs, section + 1)));
     }
+    let most = (length - filled(6, 0, 0).len()) / 2;
+    let odd = most - (most + 1) % 2;
+    let text = padded(&filled(6, odd, 1), length, b'\n');
+    cases.push((text, odd_line(odd, 7)));
     assert!(cases.iter().all(|(text, _)| text.len() == length));
     cases
 }

@@ -1,16 +1,17 @@
 //! Texts of jobs that are carried out: all moduli, all layouts, sizes at the program's limits, and
-//! answers in any order, some of them late, repeated or from hosts that the job has not.
+//! answers in any order, some of them late, repeated, outside the window or from hosts that the job has
+//! not.
 //!
 //!   IN_EACH_LAYOUT  a plan in each layout
 //!   jobs            all of them
 //!   drawn           a job with random contents
 
-use super::job_text::JobText;
+use super::job_text::{Answer, JobText};
 use crate::cases::draw::turns;
 use crate::cases::folder::Case;
 use crate::jobs::faults::SMALL;
 use crate::jobs::stories::{draw_points, small_line};
-use crate::sheet::plan::{choose, known_prime, primes, Job, Line};
+use crate::sheet::plan::{choose, known_prime, primes, Job, Line, Window};
 use crate::sheet::random::Random;
 use crate::sheet::whole_job::Contents;
 
@@ -36,15 +37,22 @@ pub fn jobs(random: &mut Random) -> Vec<Case> {
 }
 
 /// The sheet's smallest job with some answers, and all that is printed for it, as told by hand.
-const BY_HAND: &str = "JOB 1 1 1 1 1 1 1 1 1 3 7\nPOINTS 1 2 3\nA 5\nB 4\n\
-    MASKS_A 7\nMASKS_B 9\nANSWERS 2 2 0 4 3 1 1\n";
+const BY_HAND: &str = "JOB 1 1 1 1 1 1 1 1 1 3 7 2 9\nPOINTS 1 2 3\nA 5\nB 4\n\
+    MASKS_A 7\nMASKS_B 9\nANSWERS 2 1 2 8 2 2 2 9 0 9 4 2 3 2 1 0 1 5 1 9\n";
 const BY_HAND_DUE: &str = "MODULUS 13\nLAYOUT 1\nHOSTS 3\nNEEDED 3\nA 0 | 1\nB 0 | 1\nC 0\n\
-    host 2 taken, heard 1\nhost 2 already in, heard 1\nhost 0 refused 12\nhost 4 refused 12\n\
-    host 3 taken, heard 2\nhost 1 taken, heard 3\nhost 1 late, heard 3\nHEARD 1 2 3\n\
+    host 2 refused 30\nhost 2 taken, heard 1\nhost 2 already in, heard 1\nhost 2 refused 30\n\
+    host 0 refused 12\nhost 4 refused 12\nhost 3 taken, heard 2\nhost 1 refused 30\n\
+    host 1 taken, heard 3\nhost 1 late, heard 3\nHEARD 1 2 3\n\
     TABLE\n7\nSIGNED READING\n-6\nPAGE\n               1\n    1          7\n";
 
 /// The sheet's smallest job: as told by hand, in all orders, and with too few answers.
 fn checked_by_hand() -> Vec<Case> {
+    let order = [2, 1, 2, 8, 2, 2, 2, 9, 0, 9, 4, 2, 3, 2, 1, 0, 1, 5, 1, 9];
+    let by_hand = JobText {
+        order: order.chunks(2).map(|pair| [pair[0], pair[1]]).collect(),
+        ..JobText::by_hand()
+    };
+    assert_eq!(by_hand.case(), (BY_HAND.into(), BY_HAND_DUE.into()));
     let orders: [&[u32]; 16] = [
         &[2, 2, 0, 4, 3, 1, 1],
         &[1, 2, 3],
@@ -63,13 +71,8 @@ fn checked_by_hand() -> Vec<Case> {
         &[3, 2, 1, 0, 4, u32::MAX],
         &[1, 0, 0, 2, 64, 65, 3],
     ];
-    let cases = orders.map(|order| {
-        let order = order.to_vec();
-        let job = JobText::by_hand();
-        JobText { order, ..job }.case()
-    });
-    assert_eq!(cases[0], (BY_HAND.into(), BY_HAND_DUE.into()));
-    cases.to_vec()
+    let cases = orders.map(|hosts| by_hand.answered(hosts).case());
+    [&[by_hand.case()], &cases[..]].concat()
 }
 
 /// A table of 0, (q - 1)/2, (q + 1)/2 and q - 1, in a column and in a row.
@@ -114,7 +117,7 @@ fn small_jobs(random: &mut Random) -> Vec<Case> {
         let line = small_line(random, round);
         let cycle = round / turns();
         let mut job = drawn(random, line, cycle);
-        job.order = disturbed(random, line[9]);
+        job.order = disturbed(random, line[9], job.window);
         if round % 5 == 3 {
             job.order.truncate(random.index(job.order.len()));
         }
@@ -134,17 +137,23 @@ pub fn drawn(random: &mut Random, line: Line, kind: u32) -> JobText {
     JobText::drawn(random, line, points, q)
 }
 
-/// All hosts in random order; here and there one once more, or a number that is no host's.
-fn disturbed(random: &mut Random, hosts: u32) -> Vec<u32> {
-    let mut order = Vec::new();
+/// All hosts in random order, inside the window; here and there one once more, one outside the
+/// window, or a number that is no host's in any minute.
+fn disturbed(random: &mut Random, hosts: u32, window: Window) -> Vec<Answer> {
+    let mut order: Vec<Answer> = Vec::new();
     for host in random.order(hosts) {
-        order.push(host);
+        order.push([host, random.inside(window)]);
+        let any = random.any_minute(window);
         match random.within(0, 11) {
-            0 => order.push(0),
-            1 => order.push(hosts + 1),
-            2 => order.push(random.within(65, u32::MAX)),
+            0 => order.push([0, any]),
+            1 => order.push([hosts + 1, any]),
+            2 => order.push([random.within(65, u32::MAX), any]),
             3..=5 => order.push(order[random.index(order.len())]),
             _ => {}
+        }
+        if random.clock().within(0, 4) == 0 {
+            let other = random.clock().within(1, hosts);
+            order.push([other, random.outside(window)]);
         }
     }
     order
@@ -181,7 +190,7 @@ fn large_groups(random: &mut Random) -> Vec<Case> {
     let mut cases = Vec::new();
     for (kind, line) in (0..).zip(lines) {
         let mut job = drawn(random, line, kind);
-        job.order = disturbed(random, line[9]);
+        job.order = disturbed(random, line[9], job.window);
         cases.push(job.case());
     }
     cases
@@ -226,16 +235,14 @@ fn orders(random: &mut Random) -> Vec<Case> {
         vec![10; 12],
         vec![11, 64, 65, 255, 256, 257, 65537, 1 << 31, u32::MAX],
     ];
-    let cases = orders.into_iter().map(|order| {
-        let job = job.clone();
-        JobText { order, ..job }.case()
-    });
+    let cases = orders.iter().map(|hosts| job.answered(hosts).case());
     cases.collect()
 }
 
-/// Jobs with as many elements as the program has room for: answers, A blocks, B blocks or all of
-/// them 32,768 for all hosts, or one fewer; the longest column, row and inner side that a text has
-/// room for. Where it says so, elements and masks have one digit. The first host answers twice.
+/// Jobs with as many elements as the program has room for: answers, A blocks, B blocks or all of them
+/// 32,768 for all hosts, or one fewer; the longest column, row and inner side that a text has room
+/// for. Where it says so, elements and masks have one digit. The window is short, and the first host
+/// answers twice.
 fn large_blocks(random: &mut Random) -> Vec<Case> {
     let lines = [
         ([1, 64, 1, 64, 1, 1, 1, 1, 1, 8], false),
@@ -264,8 +271,10 @@ fn large_blocks(random: &mut Random) -> Vec<Case> {
         let q = known_prime(line[0]);
         let below = if one_digit { 10 } else { q };
         let mut job = JobText::drawn(random, line, points, below);
-        job.order.insert(1, job.order[0]);
-        cases.push(job.case());
+        job.window = [2, 9];
+        let mut hosts: Vec<u32> = job.order.iter().map(|answer| answer[0]).collect();
+        hosts.insert(1, hosts[0]);
+        cases.push(job.answered(&hosts).case());
     }
     cases
 }

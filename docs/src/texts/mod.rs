@@ -12,6 +12,7 @@
 //!   words     texts with a fault in a word
 //!   counts    texts with a section that is short or long
 //!   refusals  texts of jobs that are refused or too large
+//!   windows   texts of jobs with windows of all kinds
 //!   short     texts that end too soon, and texts changed by chance
 
 mod counts;
@@ -25,6 +26,7 @@ mod printed;
 mod refusals;
 mod sections;
 mod short;
+mod windows;
 mod words;
 
 use crate::cases::folder::{self, capitals, Case};
@@ -32,29 +34,40 @@ use crate::sheet::page_check;
 use crate::sheet::plan_check;
 use crate::sheet::random::Random;
 use crate::sheet::sums_check;
+use crate::sheet::window_check;
 use printed::printed;
 
 /// The kinds of all that is printed, each with the least count of its texts.
 #[rustfmt::skip]
-const KINDS: [(&str, u32); 48] = [
-    ("expected the end of the text", 9), ("expected the word A", 43),
-    ("expected the word ANSWERS", 37), ("expected the word B", 35), ("expected the word JOB", 56),
-    ("expected the word MASKS_A", 36), ("expected the word MASKS_B", 37),
-    ("expected the word POINTS", 62), ("job too large", 34), ("no number", 177),
-    ("number too large", 51), ("plan refused  1", 105), ("plan refused  2", 36),
-    ("plan refused  3", 49), ("plan refused  4", 23), ("plan refused  5", 52),
-    ("plan refused  6", 15), ("plan refused  7", 21), ("plan refused  8", 39),
-    ("plan refused 10", 30), ("plan refused 11", 30), ("section A long", 42),
-    ("section A short", 68), ("section B long", 36), ("section B short", 49),
-    ("section JOB long", 34), ("section JOB short", 40), ("section MASKS_A long", 43),
-    ("section MASKS_A short", 49), ("section MASKS_B long", 46), ("section MASKS_B short", 43),
-    ("section POINTS long", 28), ("section POINTS short", 59), ("share refused 14", 37),
-    ("share refused 15", 34), ("table of 13, layout 1", 117), ("table of 13, layout 2", 25),
-    ("table of 2147483647, layout 1", 64), ("table of 2147483647, layout 2", 39),
-    ("table of 2147483647, layout 3", 30), ("table of 257, layout 1", 84),
-    ("table of 257, layout 2", 26), ("table of 257, layout 3", 25),
-    ("table of 65537, layout 1", 50), ("table of 65537, layout 2", 36),
-    ("table of 65537, layout 3", 32), ("table refused 24", 73), ("text too long", 10),
+const KINDS: [(&str, u32); 50] = [
+    ("expected the end of the text", 9), ("expected the word A", 42),
+    ("expected the word ANSWERS", 36), ("expected the word B", 35), ("expected the word JOB", 55),
+    ("expected the word MASKS_A", 38), ("expected the word MASKS_B", 36),
+    ("expected the word POINTS", 67), ("job too large", 34), ("no number", 179),
+    ("number too large", 69), ("plan refused  1", 114), ("plan refused  2", 37),
+    ("plan refused  3", 49), ("plan refused  4", 33), ("plan refused  5", 64),
+    ("plan refused  6", 19), ("plan refused  7", 26), ("plan refused  8", 38),
+    ("plan refused 10", 31), ("plan refused 11", 29), ("plan refused 29", 98),
+    ("section A long", 38), ("section A short", 57), ("section ANSWERS odd", 77),
+    ("section B long", 36), ("section B short", 45), ("section JOB long", 34),
+    ("section JOB short", 42), ("section MASKS_A long", 49), ("section MASKS_A short", 52),
+    ("section MASKS_B long", 48), ("section MASKS_B short", 46), ("section POINTS long", 31),
+    ("section POINTS short", 58), ("share refused 14", 32), ("share refused 15", 30),
+    ("table of 13, layout 1", 153), ("table of 13, layout 2", 28),
+    ("table of 2147483647, layout 1", 64), ("table of 2147483647, layout 2", 32),
+    ("table of 2147483647, layout 3", 28), ("table of 257, layout 1", 90),
+    ("table of 257, layout 2", 32), ("table of 257, layout 3", 29),
+    ("table of 65537, layout 1", 49), ("table of 65537, layout 2", 33),
+    ("table of 65537, layout 3", 36), ("table refused 24", 130), ("text too long", 10),
+];
+
+/// What can become of an answer, with the least count of such answers.
+const ANSWERS: [(&str, usize); 5] = [
+    ("taken", 7624),
+    ("already in", 17412),
+    ("refused 12", 17605),
+    ("refused 30", 18355),
+    ("late", 17719),
 ];
 
 /// The most texts.
@@ -65,6 +78,7 @@ pub fn write_folder(folder: &str) {
     plan_check::run();
     sums_check::run();
     page_check::run();
+    window_check::run();
     let cases = gathered();
     assert!(cases.len() <= MOST_TEXTS);
     cases.iter().for_each(page_back);
@@ -72,8 +86,8 @@ pub fn write_folder(folder: &str) {
     report(&cases);
 }
 
-/// All texts, each once, with all that must be printed. Those for pages have a generator of their own: no
-/// other text changes with them.
+/// All texts, each once, with all that must be printed. Those for pages and for windows have
+/// generators of their own: no other text changes with them.
 fn gathered() -> Vec<Case> {
     let random = &mut Random::new(2029);
     let groups = [
@@ -89,6 +103,7 @@ fn gathered() -> Vec<Case> {
         refusals::large(),
         short::short(random),
         pages::pages(&mut Random::new(2033)),
+        windows::windows(&mut Random::new(2035)),
     ];
     folder::gathered(groups.concat(), short::changed(random), printed)
 }
@@ -125,6 +140,7 @@ fn of_line(line: &str) -> String {
     match words[..] {
         ["EXPECTED", "the", "word", word, ..] => format!("expected the word {word}"),
         ["EXPECTED", ..] => "expected the end of the text".into(),
+        ["SECTION", "ANSWERS", ..] => "section ANSWERS odd".into(),
         ["SECTION", word, "has", has, _, _, "needs", needs, ..] => {
             let [has, needs] = [has, needs].map(|count| count.trim_end_matches(','));
             let is_short = has.parse::<u32>().ok() < needs.parse().ok();
@@ -134,14 +150,13 @@ fn of_line(line: &str) -> String {
     }
 }
 
-/// Prints what becomes of how many answers.
+/// Prints what becomes of how many answers; panics unless there are so many of each kind.
 fn report(cases: &[Case]) {
-    for words in ["taken", "already in", "refused 12", "late"] {
+    for (words, least) in ANSWERS {
         let is_such = |line: &&str| line.starts_with("host ") && line.contains(words);
         let count = |(_, due): &Case| due.lines().filter(is_such).count();
-        println!(
-            "answers {words}: {}",
-            cases.iter().map(count).sum::<usize>()
-        );
+        let answers: usize = cases.iter().map(count).sum();
+        println!("answers {words}: {answers}");
+        assert!(answers >= least, "answers {words}: not {least}");
     }
 }

@@ -1,16 +1,18 @@
 //! What the program of a whole job must print for a text.
 //!
-//! A text has seven sections (`sections`): the job's eleven numbers, N points, A, B, A's masks,
-//! B's masks, and the hosts whose answers come in, one after another. A UTF-8 mark at its front is
-//! skipped. What is tested, in this order; the first that fits is printed:
+//! A text has seven sections (`sections`): the job's thirteen numbers, the last two its window, N points,
+//! A, B, A's masks, B's masks, and the hosts whose answers come in, one after another, each with its
+//! minute. A UTF-8 mark at its front is skipped. What is tested, in this order; the first that fits is
+//! printed:
 //!
 //!   TEXT TOO LONG        65,536 bytes or more
 //!   EXPECTED, NO NUMBER,
 //!   NUMBER TOO LARGE     the first fault of the text, with its line and column
-//!   SECTION              the section JOB has not 11 numbers
+//!   SECTION              the section JOB has not 13 numbers
 //!   REFUSED n            a plan that is refused; where n is 9, SECTION for the points
 //!   JOB TOO LARGE        blocks for all hosts of over 32,768 elements
-//!   SECTION              the first of A, B and the masks that has not its count
+//!   SECTION              the first of A, B and the masks that has not its count, or the answers if the
+//!                        last host has no minute
 //!
 //! The others get the plan as the lister has it. Then A is shared for all hosts, then B; a refusal
 //! is printed and ends it. Then comes a line for each answer, a line with the hosts heard, and the
@@ -19,6 +21,7 @@
 //!   printed        all that is printed
 //!   TOO_LONG       the line for a text that is too long
 //!   count_line     the line for a section that has not its count
+//!   odd_line       the line for answers whose last host has no minute
 //!   large_line     the line for a job that is too large
 //!   needs          how many numbers A, B and the masks need
 //!   answer_line    what became of a host's answer
@@ -32,7 +35,7 @@ use crate::sheet::decode::decode;
 use crate::sheet::job_call::{answer_length, Act, JobCall};
 use crate::sheet::listing::{self, refused};
 use crate::sheet::page::formatted;
-use crate::sheet::plan::{refusal, Job};
+use crate::sheet::plan::{refusal, Job, Line};
 use crate::sheet::share::{share, Shape, Side};
 use crate::sheet::whole_job::{sharing, Contents, WholeJob};
 
@@ -40,7 +43,7 @@ use crate::sheet::whole_job::{sharing, Contents, WholeJob};
 pub const MOST_TEXT: usize = 65_536;
 
 /// How many numbers the section JOB has.
-pub const JOB_NUMBERS: usize = 11;
+pub const JOB_NUMBERS: usize = 13;
 
 /// The most elements of blocks for all hosts.
 const MOST_ELEMENTS: usize = 32_768;
@@ -52,6 +55,11 @@ pub const TOO_LONG: &str = "TEXT TOO LONG: at most 65535 bytes\n";
 pub fn count_line(section: usize, has: usize, needs: usize, line: usize) -> String {
     let word = WORDS[section];
     format!("SECTION {word} has {has} numbers and needs {needs}, line {line}\n")
+}
+
+/// The line for answers of so many numbers, whose last host has no minute.
+pub fn odd_line(has: usize, line: usize) -> String {
+    format!("SECTION ANSWERS has {has} numbers and needs a minute after each host, line {line}\n")
 }
 
 /// The line for a job whose blocks for all hosts have so many elements.
@@ -72,29 +80,12 @@ pub fn printed(text: &[u8]) -> String {
 
 /// What is printed for the sections of a text.
 fn printed_for(sections: &[Section]) -> String {
-    let miscounted = |section: usize, needs: usize| {
-        let Section { line, numbers } = &sections[section];
-        (numbers.len() != needs).then(|| count_line(section, numbers.len(), needs, *line))
+    let job = match tested(sections) {
+        Ok(job) => job,
+        Err(line) => return line,
     };
-    if let Some(line) = miscounted(0, JOB_NUMBERS) {
-        return line;
-    }
     let numbers = |section: usize| sections[section].numbers.clone();
-    let (line, job_number) = (&numbers(0)[..10], numbers(0)[10]);
-    let line = line.try_into().expect("ten numbers");
-    let job = Job::of_line(&line);
-    match refusal(&job, &numbers(1)) {
-        Some(9) => return miscounted(1, job.hosts as usize).expect("a wrong count"),
-        Some(number) => return refused(number),
-        None => {}
-    }
-    if largest_blocks(&job) > MOST_ELEMENTS {
-        return large_line(largest_blocks(&job));
-    }
-    if let Some(line) = (2..).zip(needs(&job)).find_map(|(i, n)| miscounted(i, n)) {
-        return line;
-    }
-    let plan = listing::reply(&listing::text(&line));
+    let plan = listing::reply(&listing::text(&job.line()));
     let sides = [0, 1].map(|side| Contents {
         matrix: numbers(2 + side),
         masks: numbers(4 + side),
@@ -102,8 +93,38 @@ fn printed_for(sections: &[Section]) -> String {
     if let Some(number) = share_refusal(&job, &numbers(1), &sides) {
         return plan + &refused(number);
     }
-    let whole = WholeJob::of(line, job_number, numbers(1), sides);
+    let whole = WholeJob::of(job, numbers(0)[10], numbers(1), sides);
     plan + &answers_and_table(&whole, &numbers(6))
+}
+
+/// The job of the sections of a text, or the line for the first test that fits.
+fn tested(sections: &[Section]) -> Result<Job, String> {
+    let counted = |section: usize, needs: usize| {
+        let Section { line, numbers } = &sections[section];
+        match numbers.len() == needs {
+            true => Ok(()),
+            false => Err(count_line(section, numbers.len(), needs, *line)),
+        }
+    };
+    counted(0, JOB_NUMBERS)?;
+    let numbers = &sections[0].numbers;
+    let line: Line = numbers[..10].try_into().expect("ten numbers");
+    let job = Job::of(&line, [numbers[11], numbers[12]]);
+    match refusal(&job, &sections[1].numbers) {
+        Some(9) => return Err(counted(1, job.hosts as usize).expect_err("a wrong count")),
+        Some(number) => return Err(refused(number)),
+        None => {}
+    }
+    if largest_blocks(&job) > MOST_ELEMENTS {
+        return Err(large_line(largest_blocks(&job)));
+    }
+    let mut others = (2..).zip(needs(&job));
+    others.try_for_each(|(section, needs)| counted(section, needs))?;
+    let Section { line, numbers } = &sections[6];
+    match numbers.len() % 2 {
+        0 => Ok(job),
+        _ => Err(odd_line(numbers.len(), *line)),
+    }
 }
 
 /// How many numbers A, B, A's masks and B's masks of an accepted job have.
@@ -137,7 +158,9 @@ fn share_refusal(job: &Job, points: &[u32], sides: &[Contents; 2]) -> Option<u32
 /// B.
 fn answers_and_table(whole: &WholeJob, order: &[u32]) -> String {
     let mut call = whole.call(Act::Arrive);
-    let lines: String = order.iter().map(|&i| take(whole, &mut call, i)).collect();
+    let pairs = order.chunks_exact(2);
+    let taken = pairs.map(|pair| take(whole, &mut call, pair[0], pair[1]));
+    let lines: String = taken.collect();
     let heard = heard_line(&call.heard_hosts());
     call.act = Act::Decode;
     call.room = whole.table.len();
@@ -151,12 +174,13 @@ fn answers_and_table(whole: &WholeJob, order: &[u32]) -> String {
     [lines, heard, end].concat()
 }
 
-/// Takes a host's answer into the hosts heard and the store of a call, and tells what became of it;
-/// once K are heard no more are taken.
-fn take(whole: &WholeJob, call: &mut JobCall, host: u32) -> String {
+/// Takes a host's answer of a minute into the hosts heard and the store of a call, and tells what
+/// became of it; once K are heard no more are taken.
+fn take(whole: &WholeJob, call: &mut JobCall, host: u32, minute: u32) -> String {
     if call.heard_hosts().len() >= whole.needed {
         return answer_line(host, "late, heard", whole.needed);
     }
+    call.minute = minute;
     match arrival(whole, call, host) {
         Err(number) => answer_line(host, "refused", number as usize),
         Ok(Arrived::AlreadyIn) => answer_line(host, "already in, heard", call.heard_hosts().len()),

@@ -6,12 +6,13 @@
 
 use super::job_text::{sectioned, JobText};
 use super::jobs::drawn;
-use super::printed::{count_line, large_line};
+use super::printed::{count_line, large_line, odd_line};
 use crate::cases::faults::{alone, alone_and_in_pairs, Fault};
 use crate::cases::folder::Case;
+use crate::cases::windows::WINDOWS;
 use crate::jobs::faults::{last_of, LARGE, SMALL};
 use crate::sheet::listing::refused;
-use crate::sheet::plan::{known_prime, primes, Line};
+use crate::sheet::plan::{known_prime, primes, Job, Line, Window};
 use crate::sheet::random::Random;
 
 /// A job, and numbers too many or too few in a section.
@@ -61,7 +62,10 @@ impl Spoilt {
                     Count::Short => needs - 1,
                     Count::Long => needs + 1,
                 };
-                count_line(section, has, needs, section + 1)
+                match section {
+                    6 => odd_line(has, 7),
+                    _ => count_line(section, has, needs, section + 1),
+                }
             }
             14 | 15 => self.job.plan() + &refused(number),
             _ => refused(number),
@@ -71,7 +75,7 @@ impl Spoilt {
 
 /// Faults of a text of `SMALL` or `LARGE`, in the order of the tests: several modulus numbers, one of
 /// each other number for its plan, a wrong count, then one of each number for A and for B.
-const FAULTS: [Fault<Spoilt>; 20] = [
+const FAULTS: [Fault<Spoilt>; 23] = [
     (1, |spoilt| spoilt.job.line[0] = 5),
     (1, |spoilt| spoilt.job.line[0] = 0),
     (1, |spoilt| spoilt.job.line[0] = 255),
@@ -84,10 +88,13 @@ const FAULTS: [Fault<Spoilt>; 20] = [
     (6, |spoilt| spoilt.job.line[1] = 2732),
     (7, |spoilt| spoilt.job.line[9] = 65),
     (8, |spoilt| spoilt.job.line[8] = 2),
+    (29, |spoilt| spoilt.job.window[0] = spoilt.job.window[1]),
+    (29, |spoilt| spoilt.job.window.reverse()),
     (9, |spoilt| spoilt.count(1, Count::Short)),
     (10, |spoilt| spoilt.job.points[7] = spoilt.q()),
     (11, |spoilt| spoilt.job.points[9] = 3),
     (13, |spoilt| spoilt.count(5, Count::Long)),
+    (13, |spoilt| spoilt.count(6, Count::Short)),
     (14, |spoilt| spoilt.job.sides[0].matrix[0] = spoilt.q()),
     (15, |spoilt| spoilt.job.sides[0].masks[0] = spoilt.q()),
     (14, |spoilt| spoilt.job.sides[1].matrix[0] = spoilt.q()),
@@ -95,7 +102,7 @@ const FAULTS: [Fault<Spoilt>; 20] = [
 ];
 
 /// More faults of a text of `SMALL`.
-const MORE_FAULTS: [Fault<Spoilt>; 38] = [
+const MORE_FAULTS: [Fault<Spoilt>; 43] = [
     (1, |spoilt| spoilt.job.line[0] = 6),
     (1, |spoilt| spoilt.job.line[0] = 257),
     (1, |spoilt| spoilt.job.line[0] = 260),
@@ -123,6 +130,10 @@ const MORE_FAULTS: [Fault<Spoilt>; 38] = [
         (spoilt.job.line[0], spoilt.job.line[9]) = (1, 13)
     }),
     (8, |spoilt| spoilt.job.line[9] = 8),
+    (29, |spoilt| spoilt.job.window = [0, 0]),
+    (29, |spoilt| spoilt.job.window = [u32::MAX, u32::MAX]),
+    (29, |spoilt| spoilt.job.window[1] = 0),
+    (29, |spoilt| spoilt.job.window[0] = u32::MAX),
     (9, |spoilt| spoilt.count(1, Count::Long)),
     (10, |spoilt| spoilt.job.points[0] = 0),
     (10, |spoilt| spoilt.job.points[9] = u32::MAX),
@@ -148,6 +159,7 @@ const MORE_FAULTS: [Fault<Spoilt>; 38] = [
     (13, |spoilt| spoilt.count(2, Count::Short)),
     (13, |spoilt| spoilt.count(3, Count::Long)),
     (13, |spoilt| spoilt.count(4, Count::Short)),
+    (13, |spoilt| spoilt.count(6, Count::Long)),
 ];
 
 /// Texts of `SMALL` with faults, each alone, and many in pairs; and texts of `LARGE`, with each of these
@@ -217,17 +229,19 @@ const TOO_LARGE: [(Line, usize); 17] = [
     ([4, 1, 16384, 1, 1, 8, 1, 1, 1, 17], 34_816),
 ];
 
-/// The jobs that are too large. The other sections are empty, or have some numbers; with one point short,
-/// 0 or repeated the plan is refused.
+/// The jobs that are too large, with windows in turn. The other sections are empty, or have some
+/// numbers; with one point short, 0 or repeated, or without a window, the plan is refused.
 pub fn large() -> Vec<Case> {
     let mut cases = Vec::new();
-    for (line, elements) in TOO_LARGE {
+    for ((line, elements), window) in TOO_LARGE.into_iter().zip(WINDOWS) {
         let points: Vec<u32> = (1..=line[9]).collect();
-        let text = |points: &[u32], others: &[u32]| {
-            let job = [&line[..], &[0]].concat();
+        let of_window = |window: Window, points: &[u32], others: &[u32]| {
+            let job = Job::of(&line, window).numbers(0);
             let [a, b, c, d, e] = [(); 5].map(|()| others.to_vec());
             sectioned(&[job, points.to_vec(), a, b, c, d, e])
         };
+        let text = |points: &[u32], others: &[u32]| of_window(window, points, others);
+        let [opening, closing] = window;
         let [mut zero, mut repeated] = [points.clone(), points.clone()];
         *last_of(&mut zero) = 0;
         *last_of(&mut repeated) = 1;
@@ -237,6 +251,8 @@ pub fn large() -> Vec<Case> {
         cases.push((text(&points[1..], &[]), count_line(1, has, needs, 2)));
         cases.push((text(&zero, &[]), refused(10)));
         cases.push((text(&repeated, &[]), refused(11)));
+        cases.push((of_window([closing, opening], &points, &[]), refused(29)));
+        cases.push((of_window([closing, closing], &zero, &points), refused(29)));
     }
     cases
 }

@@ -5,6 +5,7 @@
 
 use super::job_text::{tokens, JobText};
 use super::jobs::{drawn, IN_EACH_LAYOUT};
+use super::printed::odd_line;
 use super::sections::{expected_line, WORDS};
 use crate::cases::draw::{nudged, turns};
 use crate::cases::folder::Case;
@@ -39,9 +40,15 @@ fn beginning(job: &JobText, kept: usize, gap: u8) -> Case {
     let is_word = |token: &&Vec<u8>| !token[0].is_ascii_digit();
     let words = all[..kept].iter().filter(is_word).count();
     if words == WORDS.len() {
+        let has = 2 * job.order.len() + kept - all.len();
+        let line = if gap == b' ' { 1 } else { kept - has };
         let mut front = job.clone();
-        front.order.truncate(job.order.len() + kept - all.len());
-        return (text, front.due());
+        front.order.truncate(has / 2);
+        let due = match has % 2 {
+            0 => front.due(),
+            _ => odd_line(has, line),
+        };
+        return (text, due);
     }
     let last = all[..kept].last().map_or(0, Vec::len);
     let position = match gap {
@@ -57,7 +64,7 @@ fn beginning(job: &JobText, kept: usize, gap: u8) -> Case {
     (text, expected_line(words, position))
 }
 
-/// Texts of small jobs with a byte or a number of the plan changed by chance.
+/// Texts of small jobs with a byte, a number of the plan, or a minute of the window changed by chance.
 pub fn changed(random: &mut Random) -> Vec<Vec<u8>> {
     let mut texts = Vec::new();
     for round in 0..440 {
@@ -69,6 +76,12 @@ pub fn changed(random: &mut Random) -> Vec<Vec<u8>> {
             job.line = nudged(random, line);
             texts.push(job.strewn_text(random));
         }
+    }
+    for round in 0..4 * turns() {
+        let line = small_line(random, round);
+        let mut job = drawn(random, line, 0);
+        job.window[random.index(2)] = random.any_minute(job.window);
+        texts.push(job.strewn_text(random));
     }
     texts
 }

@@ -86,7 +86,7 @@ in-window-requires c κs = search needs
 returns-2 : tie.Need-returns-2
 returns-2 c =
     let e = c .before .before in
-    let outside = sym (c .before .in-window .ensures) ∙ not-true _ (c .if2 .taken) in
+    let outside = sym (c .before .in-window .ensures) ∙ not-true (c .before .in-window .result) (c .if2 .taken) in
     refused _ _ _ _ _ 30 (suc-ne-zero 29) (told-minute _ _ _ _ _ (read (e .before .before .before) .0) (answer-clear e) outside)
 
 -- ---- the message is fit
@@ -103,7 +103,7 @@ last : (e : tie.Else2) → first (receivedTests (begin (parsed-of e) .args .job)
     ≡ first (againTests (answerLength (begin (parsed-of e) .args .job)) (begin (parsed-of e) .args .heard) (begin (parsed-of e) .args .store .now) (begin (parsed-of e) .args .message .now))
 last e =
     told-again _ _ _ _ _ (read (parsed-of e) .0) (answer-clear (e .before .before))
-    (sym (e .before .in-window .ensures) ∙ not-false _ (e .if2 .left))
+    (sym (e .before .in-window .ensures) ∙ not-false (e .before .in-window .result) (e .if2 .left))
 
 -- the index is one of the job's, and so one of 64
 below : (e : tie.Else2) → parsed-of e .parsed2 .given .0 .0 .host - 1 < begin (parsed-of e) .args .job .hosts

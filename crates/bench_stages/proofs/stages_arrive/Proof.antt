@@ -30,19 +30,19 @@ abbrev start : tie.After-arrive → tie.Start
 start p = p .before .before .before .before .before .before .before
 
 -- the answer is that of an arrival in the job with these numbers
-arrived-is : (p : tie.After-arrive) → arrived (jobOf (start p .args .numbers)) (start p .args .points .now) (start p .args .heard .now) (start p .args .store .now) (start p .args .message .now) ≡ p .arrive .result
+arrived-is : (p : tie.After-arrive) → arrived (jobOf (start p .args .numbers)) (start p .args .points .now) (start p .args .heard .now) (start p .args .store .now) (start p .args .message .now) (start p .args .minute) ≡ p .arrive .result
 arrived-is p =
     let a = start p .args in
     sym
     (p .arrive .ensures .0
-    ∙ ap (λ (job : Job). arrived job (a .points .now) (a .heard .now) (a .store .now) (a .message .now)) (p .before .before .before .job-of .ensures))
+    ∙ ap (λ (job : Job). arrived job (a .points .now) (a .heard .now) (a .store .now) (a .message .now) (a .minute)) (p .before .before .before .job-of .ensures))
 
 -- and so is the store
-stored-is : (p : tie.After-arrive) → p .arrive .last .1 .1 .1 .0 ≡ storeAfter (jobOf (start p .args .numbers)) (start p .args .points .now) (start p .args .heard .now) (start p .args .store .now) (start p .args .message .now)
+stored-is : (p : tie.After-arrive) → p .arrive .last .1 .1 .1 .0 ≡ storeAfter (jobOf (start p .args .numbers)) (start p .args .points .now) (start p .args .heard .now) (start p .args .store .now) (start p .args .message .now) (start p .args .minute)
 stored-is p =
     let a = start p .args in
     p .arrive .ensures .1
-    ∙ ap (λ (job : Job). storeAfter job (a .points .now) (a .heard .now) (a .store .now) (a .message .now)) (p .before .before .before .job-of .ensures)
+    ∙ ap (λ (job : Job). storeAfter job (a .points .now) (a .heard .now) (a .store .now) (a .message .now) (a .minute)) (p .before .before .before .job-of .ensures)
 
 returns : tie.Need-returns
 returns c =

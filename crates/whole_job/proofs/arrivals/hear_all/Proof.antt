@@ -8,7 +8,7 @@ use Rattle.whole_job.proofs.arrivals.hear_all.Statement.{statement}
 use Rattle.whole_job.proofs.arrivals.hear_all.Tie as tie
 
 abbrev Inv-loop : tie.InvT-loop
-Inv-loop whole numbers shares store₀ pair₀ product₀ message₀ job sizes points order heard₀ i₀ store pair product message heard i =
+Inv-loop whole numbers shares store₀ pair₀ product₀ message₀ job sizes points order answers heard₀ i₀ store pair product message heard i =
     record {
       store : length store ≡ length store₀;
       pair : length pair ≡ length pair₀;
@@ -17,8 +17,8 @@ Inv-loop whole numbers shares store₀ pair₀ product₀ message₀ job sizes p
     }
 
 abbrev μ-loop : tie.MeasureT-loop
-μ-loop whole numbers shares store₀ pair₀ product₀ message₀ job sizes points order heard₀ i₀ store pair product message heard i =
-    length order - i
+μ-loop whole numbers shares store₀ pair₀ product₀ message₀ job sizes points order answers heard₀ i₀ store pair product message heard i =
+    answers - i
 
 numbers-of-requires : tie.Need-numbers-of-requires Inv-loop μ-loop
 numbers-of-requires c κs = search needs
@@ -29,11 +29,23 @@ numbers-of-requires-2 c κs = search needs
 loop-holds : tie.Need-loop-holds Inv-loop μ-loop
 loop-holds c = record { store = refl; pair = refl; product = refl; message = refl }
 
-mul-t18 : tie.Need-mul-t18 Inv-loop μ-loop
-mul-t18 c = omega arith
+mul-at : tie.Need-mul-at Inv-loop μ-loop
+mul-at c = omega arith
 
-shared-slice-read-t21 : tie.Need-shared-slice-read-t21 Inv-loop μ-loop
-shared-slice-read-t21 c = omega arith
+mul-t22 : tie.Need-mul-t22 Inv-loop μ-loop
+mul-t22 c = omega arith
+
+shared-slice-read-t24 : tie.Need-shared-slice-read-t24 Inv-loop μ-loop
+shared-slice-read-t24 c = omega arith
+
+add-t25 : tie.Need-add-t25 Inv-loop μ-loop
+add-t25 c = omega arith
+
+mul-t26 : tie.Need-mul-t26 Inv-loop μ-loop
+mul-t26 c = omega arith
+
+shared-slice-read-t28 : tie.Need-shared-slice-read-t28 Inv-loop μ-loop
+shared-slice-read-t28 c = omega arith
 
 hear-requires : tie.Need-hear-requires Inv-loop μ-loop
 hear-requires c κs = search needs
@@ -71,8 +83,12 @@ hear-all-spec =
     numbers-of-requires
     numbers-of-requires-2
     loop-holds
-    mul-t18
-    shared-slice-read-t21
+    mul-at
+    mul-t22
+    shared-slice-read-t24
+    add-t25
+    mul-t26
+    shared-slice-read-t28
     hear-requires
     add-i
     loop-less

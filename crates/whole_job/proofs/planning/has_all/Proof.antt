@@ -41,6 +41,9 @@ loop-less c = omega arith
 loop-again : tie.Need-loop-again Inv-loop μ-loop
 loop-again c = omega arith
 
+has-minutes-requires : tie.Need-has-minutes-requires Inv-loop μ-loop
+has-minutes-requires c κs = search needs
+
 returns-2 : tie.Need-returns-2 Inv-loop μ-loop
 returns-2 c = search needs
 
@@ -60,4 +63,5 @@ has-all-spec =
     add-section
     loop-less
     loop-again
+    has-minutes-requires
     returns-2)
