@@ -1,4 +1,4 @@
-// Layouts: the exponents of blocks and masks, the places of the table, and the number of answers needed.
+// Layouts: the exponents of blocks and masks, the places of the table, the number of answers needed, and a layout's number.
 // The numbers of cuts and the group sizes are u8, so that every exponent fits a u32 and nothing has to be refused here.
 ghost use mathlib.Core.Path.{_≡_};
 ghost use Prim.Native.Nat.{_+_, _-_, _*_, _^_, _<_};

@@ -13,8 +13,7 @@ use lib.ListN.{length, drop}
 use Rattle.algebra.specs.Lists.{tab}
 use Rattle.plan.specs.declared.Planned.{Planned}
 use Rattle.plan.specs.Planning.{planned, tableFor, tableJob, unwindowed}
-use Rattle.plan.proofs.Outcomes.{window-unseen}
-use Rattle.plan.proofs.Then.{table-untold}
+use Rattle.plan.proofs.Windows.{window-unseen, table-untold}
 use Rattle.lister_line.specs.declared.Line.{Line}
 use Rattle.lister_line.specs.Line.{lineOf}
 use Rattle.lister_line.proofs.Lines.{line-back, lines}

@@ -4,6 +4,7 @@
 --   told hosts opening closing points  the number that planning tells
 --   numbers        a window of two minutes, of one and of none, and one that closes before it opens; one of none with 8, 9 and 10;
 --                  a right one with these
+--   shown minute   1 where a minute is inside the window from 5 on up to 6
 --   minutes        before the window from the minute 5 on up to 6, in it, and after it
 --   unwindowed-is  the job without its window: opening, closing and job number
 use mathlib.Core.Path.{_≡_, refl}
@@ -46,7 +47,6 @@ numbers : (told 3 5 7 (1 ∷ 2 ∷ 3 ∷ []) ∷ told 3 5 6 (1 ∷ 2 ∷ 3 ∷ [
 unfolding first outside anyOutside sizesOutside overBlock moduli modulus noModulus strideD layout1 strideE layout2 layout3 exponents better choice parameters prime blockRows blockInner blockColumns layoutOf neededOf rangeTests windowTest fitTests member pointTestsAt allPointTests pointTests planTests
 numbers = refl
 
--- 1 where a minute is inside
 abbrev shown : ℕ → ℕ
 shown minute = cond (inWindow (job 3 5 7) minute) 1 0
 

@@ -5,4 +5,5 @@ pub mod Points
 pub mod Outcomes
 pub mod Facts
 pub mod Then
+pub mod Windows
 pub mod Sizes

@@ -8,12 +8,10 @@
 --   layout-is, needed-is  the layout and K, from the parameters
 --   accepted         the answer without one
 --   plan-told        what planning tells on paper: the first number that fits, or the job's values
---   window-unseen    planning answers the same in every window that opens before it closes
 use mathlib.Core.Path.{_≡_, sym, ap, ap₂, _∙_}
-use mathlib.Core.Bool.{Bool, true, false}
-use mathlib.Core.List.{List, _∷_, _++_}
+use mathlib.Core.Bool.{true, false}
+use mathlib.Core.List.{List, _++_}
 use Prim.Native.Nat.{ℕ, _/_}
-use lib.ListN.{take}
 use Rattle.refusal.specs.Chain.{first, outcome, done, refused as Chain·refused}
 use Rattle.refusal.proofs.Chains.{first-hit, first-miss, first-append, first-append-hit, outcome-done, outcome-refused, outcome-map, numbered}
 use Rattle.field.specs.declared.Modulus.{Modulus}
@@ -23,9 +21,8 @@ use Rattle.layout.specs.declared.Parameters.{Parameters}
 use Rattle.layout.specs.declared.Layout.{Layout}
 use Rattle.layout.specs.Exponents.{exponents, choice}
 use Rattle.plan.specs.declared.Job.{Job}
-use Rattle.plan.specs.declared.Planned.{Planned}
 use Rattle.plan.specs.declared.Planned.the-variants.{Accepted, Refused}
-use Rattle.plan.specs.Planning.{parameters, prime, modulusOf, blockRows, blockInner, blockColumns, layoutOf, neededOf, planOf, rangeTests, windowTest, fitTests, pointTests, planTests, planned, told, planValues, tableFor, tableJob, unwindowed}
+use Rattle.plan.specs.Planning.{parameters, prime, modulusOf, blockRows, blockInner, blockColumns, layoutOf, neededOf, planOf, rangeTests, fitTests, pointTests, planTests, planned, told, planValues}
 
 module _ (job : Job) (points : List ℕ) where
   pub plan-modulus : noModulus (job .modulus) ≡ true → first (planTests job points) ≡ 1
@@ -77,14 +74,3 @@ accepted job points m layout g needed is l same k e =
 pub plan-told : (job : Job) (points : List ℕ) → told (planned job points) ≡ outcome (first (planTests job points)) (done (planValues job)) Chain·refused
 unfolding planned planOf planValues
 plan-told job points = outcome-map told (Accepted (planOf job)) Refused (first (planTests job points))
-
--- what 29 tells is all that planning knows of a window
-pub window-unseen : (job : Job) (points : List ℕ) → windowTest job ≡ false → planned job points ≡ planned (unwindowed job) points
-unfolding planned planTests rangeTests fitTests windowTest unwindowed tableJob tableFor planOf prime modulusOf parameters layoutOf neededOf blockRows blockInner blockColumns
-window-unseen job points e = ap answered e
-  where
-    -- what planning answers where 29 tells t
-    answered : Bool → Planned
-    answered t =
-        outcome (first ((noModulus (job .modulus), 1) ∷ (rangeTests job ++ (take 4 (fitTests job) ++ ((t, 29) ∷ pointTests (prime job) (job .hosts) points)))))
-        (Accepted (planOf job)) Refused

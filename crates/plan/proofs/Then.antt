@@ -4,18 +4,16 @@
 --   plan-except      none has the number 21 or 23
 --   then-refused     planning refuses: so does the call, with the same number
 --   then-own         planning accepts: the call's own tests decide
---   table-untold     a table's job has a window: planning does not tell 29
 --   own-prime        the prime of an accepted job's modulus is that of its modulus number
 use mathlib.Core.Path.{_≡_, refl, sym, ap, _∙_}
 use mathlib.Core.Bool.{false, true≢false}
-use mathlib.Core.List.{List, [], _∷_, _++_, append-nil}
+use mathlib.Core.List.{List, _∷_, _++_}
 use Prim.Native.Nat.{ℕ, zero, suc}
 use native.Mathlib.Nat.{suc-ne-zero}
 use lib.Dec.{T}
-use lib.ListN.{length, take}
+use lib.ListN.{length}
 use Rattle.refusal.specs.Chain.{Test, first, except, outcome, differs}
 use Rattle.refusal.proofs.Chains.{first-append, first-append-hit, numbered}
-use Rattle.refusal.proofs.Except.{except-untold}
 use Rattle.field.specs.declared.Named.{Named}
 use Rattle.field.specs.declared.Named.the-variants.{Is, Unknown}
 use Rattle.field.specs.Modulus.{modulus, noModulus, named, modulusIn}
@@ -23,9 +21,8 @@ use Rattle.field.specs.Modulus.{prime as Modulus·prime}
 use Rattle.field.proofs.Moduli.{none-named}
 use Rattle.field.proofs.Moduli.{known as Moduli·known}
 use Rattle.plan.specs.declared.Job.{Job}
-use Rattle.plan.specs.declared.Table.{Table}
 use Rattle.plan.specs.declared.Planned.the-variants.{Accepted, Refused}
-use Rattle.plan.specs.Planning.{prime, modulusOf, planOf, rangeTests, windowTest, fitTests, pointTestsAt, pointTests, planTests, planned, tableJob}
+use Rattle.plan.specs.Planning.{prime, modulusOf, planOf, rangeTests, fitTests, pointTestsAt, pointTests, planTests, planned}
 use Rattle.plan.proofs.Points.{points-numbered, points-except}
 
 pub plan-numbered : (job : Job) (points : List ℕ) → T (numbered (planTests job points))
@@ -56,25 +53,6 @@ module _ (job : Job) (points : List ℕ) (rows : List Test) where
 
   pub then-own : first (planTests job points) ≡ 0 → first (planTests job points ++ rows) ≡ first rows
   then-own e = first-append (planTests job points) rows (plan-numbered job points) e
-
-module _ (table : Table) (points : List ℕ) where
-  -- the tests of the job but that of its window
-  others : List Test → List Test
-  others rows =
-      let job = tableJob table in
-      (noModulus (job .modulus), 1) ∷ (rangeTests job ++ (take 4 (fitTests job) ++ ((differs (length points) (job .hosts), 9) ∷ rows)))
-
-  told-others : first (planTests (tableJob table) points) ≡ first (except 29 (planTests (tableJob table) points))
-  unfolding planTests rangeTests fitTests windowTest pointTestsAt pointTests tableJob first except others
-  told-others =
-      let job = tableJob table in
-      ap (λ (rows : List Test). first (others rows)) (sym (points-except (prime job) points 29 (λ i. refl) (length points)))
-
-  pub table-untold : planned (tableJob table) points ≡ Refused 29 → ⊥
-  table-untold e =
-      let job = tableJob table in
-      let told = then-refused job points [] e .0 in
-      except-untold 29 (suc-ne-zero 28) (planTests job points) (sym told-others ∙ sym (ap first (append-nil (planTests job points))) ∙ told)
 
 pub own-prime : (job : Job) → noModulus (job .modulus) ≡ false → Modulus·prime (modulusOf job) ≡ prime job
 unfolding modulusOf prime

@@ -6,9 +6,10 @@
 --   blockRows, blockInner, blockColumns == the sizes of blocks: an A block is rows by inner, a B block inner by columns,
 --                           an answer rows by columns
 --   layoutOf, neededOf   == the layout that the job has, and K, its number of answers needed
+--   rangeTests           == the tests 2 to 4, of each number by itself
 --   inWindow job minute  == an arrival at that minute is inside the window
 --   windowTest job       == opening not before closing: the test of 29
---   rangeTests, fitTests == the tests 2 to 4, of each number by itself, and 5 to 8 and 29, of the numbers together
+--   fitTests             == the tests 5 to 8, and 29, of the numbers together
 --   pointTestsAt q xs i  == the tests of point i, 10 and 11
 --   allPointTests q xs n == those of the first n points, point by point
 --   pointTests           == the tests of the points, 9 to 11
@@ -77,8 +78,8 @@ inWindow job minute = leb (job .opening) minute && ltb minute (job .closing)
 unfoldable pub windowTest : Job → Bool
 windowTest job = leb (job .closing) (job .opening)
 
--- m does not divide t, or p s, or n r; a block is too large; N is not 1..64, or over q - 1; K is over N; "in planning between 8 and 9"
--- the window
+-- m does not divide t, or p s, or n r; a block is too large; N is not 1..64, or over q - 1; K is over N; the window, "in planning
+-- between 8 and 9"
 unfoldable pub fitTests : Job → List Test
 fitTests job =
     (differs (job .t % job .m) 0 || differs (job .s % job .p) 0 || differs (job .r % job .n) 0, 5)

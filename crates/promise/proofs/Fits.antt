@@ -49,7 +49,7 @@ core-numbered job message = numbered-append (messageTests message) (answerTests 
 left : Job → ℕ → List ℕ → ℕ → List Test
 left job room message minute = (differs room (storeLength job), 13) ∷ (core job message ++ minuteTests job minute)
 
--- none of them holds
+-- the tests of a message, 22, 12 and 30: none of them holds
 left-clear : (job : Job) (message : List ℕ) (minute : ℕ) → eqb (first (core job message ++ minuteTests job minute)) 0 ≡ (inWindow job minute && eqb (first (core job message)) 0)
 unfolding minuteTests
 left-clear job message minute =
@@ -87,7 +87,7 @@ module _ (job : Job) (points : List ℕ) (heard : ℕ) (store message : List ℕ
     pub planned : first (planTests job points) ≡ 0
     pub room : length store ≡ storeLength job
     pub clear : first (core job message) ≡ 0
-    pub timely : inWindow job minute ≡ true
+    pub inside : inWindow job minute ≡ true
 
   pub fit-arrival : eqb (first (except 21 (except 23 (arrivalTests job points heard store message minute)))) 0 ≡ true → FitArrival
   unfolding left
@@ -96,7 +96,7 @@ module _ (job : Job) (points : List ℕ) (heard : ℕ) (store message : List ℕ
       let parts = first-append-clear (planTests job points) rows (plan-numbered job points) (ap first (sym fit-tests) ∙ eqb-true _ 0 e) in
       let rest = first-clear _ 12 _ (parts .1) in
       let both = and-eq-true-iff (inWindow job minute) (eqb (first (core job message)) 0) .0 (sym (left-clear job message minute) ∙ eq-eqb _ 0 (rest .1)) in
-      record { planned = parts .0; room = equal _ _ (rest .0); clear = eqb-true _ 0 (both .1); timely = both .0 }
+      record { planned = parts .0; room = equal _ _ (rest .0); clear = eqb-true _ 0 (both .1); inside = both .0 }
 
   module _ (planned : first (planTests job points) ≡ 0) (room : length store ≡ storeLength job) where
     pub fit-core : eqb (first (except 21 (except 23 (arrivalTests job points heard store message minute)))) 0

@@ -105,12 +105,12 @@ module _ (m : Matrix) (job : Job) (points : List ℕ) (known : Facts job points)
 
 -- ---- two jobs
 
--- a window plays no part in headers, masks and shares
+-- a window plays no part in headers ..
 same-header : (m : Matrix) (x y : Task) (i : ℕ) → unwindowed (x .job) ≡ unwindowed (y .job) → shareHeader m x i ≡ shareHeader m y i
 unfolding unwindowed tableJob tableFor shareHeader headerFor side parameters blockRows blockInner blockColumns
 same-header m x y i e = ap (λ (job : Job). shareHeader m (record { job = job; points = []; a = []; b = [] }) i) e
 
--- masks for a matrix are masks of its side
+-- .. in masks: those for a matrix are those of its side ..
 masks-told : (m : Matrix) (x : Task) (job : Job) (ms : List ℕ) → unwindowed (x .job) ≡ unwindowed job → Masks m x ms → MasksFor (prime job) (side m job) ms
 unfolding unwindowed tableJob tableFor prime side parameters blockRows blockInner blockColumns
 masks-told m x job ms e h = subst (λ (job : Job). MasksFor (prime job) (side m job) ms) e (h .exact, h .below)
@@ -121,6 +121,7 @@ masks-made m x job ms e h =
     let own = subst (λ (job : Job). MasksFor (prime job) (side m job) ms) e h in
     record { exact = own .0; below = own .1 }
 
+-- .. and in shares
 same-share : (m : Matrix) (job other : Job) (points points' : List ℕ) (host : ℕ) (xs ms : List ℕ) → unwindowed job ≡ unwindowed other → points ≡ points'
     → hostShare m job points host xs ms ≡ hostShare m other points' host xs ms
 unfolding unwindowed tableJob tableFor hostShare prime layoutOf side parameters blockRows blockInner blockColumns

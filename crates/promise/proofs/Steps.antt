@@ -25,7 +25,7 @@ use lib.ListN.{length}
 use borrow.Author.Tests.{eqb-true, eqb-false, eq-eqb, leb-false, not-false}
 use Rattle.algebra.specs.Lists.{AllBelow}
 use Rattle.algebra.proofs.Tests.{by-test, or-true, or-false, equal}
-use Rattle.refusal.specs.Chain.{first, except, outcome, unlessRefused}
+use Rattle.refusal.specs.Chain.{first, outcome, unlessRefused}
 use Rattle.refusal.proofs.Chains.{first-none, first-miss, first-clear, first-append, first-append-clear, first-append-hit}
 use Rattle.plan.specs.Planning.{prime, inWindow, planTests}
 use Rattle.plan.proofs.Then.{plan-numbered}
@@ -192,8 +192,8 @@ module _ (x : Task) (s : State) (good : Good x s) where
         let refused : number x s message minute ≡ 0 → ⊥
         = λ z.
         let parts = first-append-clear (core (x .job) message) _ (core-numbered (x .job) message) (sym number-core ∙ z) in
-        let timely = not-false (inWindow (x .job) minute) (first-clear _ 29 _ (parts .1) .0) in
-        let passes = fit-core (x .job) (x .points) (s .heard) (s .store) message minute (good .planned) (good .room) ∙ ap₂ _&&_ timely (eq-eqb _ 0 (parts .0)) in
+        let inside = not-false (inWindow (x .job) minute) (first-clear _ 29 _ (parts .1) .0) in
+        let passes = fit-core (x .job) (x .points) (s .heard) (s .store) message minute (good .planned) (good .room) ∙ ap₂ _&&_ inside (eq-eqb _ 0 (parts .0)) in
         true≢false (sym passes ∙ e) in
         subst (Step x s (arrival message minute)) (sym (after-refused x s message minute refused))
         (still (arrival message minute) (λ i f. absurd (true≢false (sym (named x s message minute i f .0) ∙ e))) (below-of x s message minute))
@@ -205,7 +205,7 @@ module _ (x : Task) (s : State) (good : Good x s) where
       number-fit eh er =
           number-core
           ∙ first-append (core (x .job) message) _ (core-numbered (x .job) message) (passed x s message minute f)
-          ∙ first-miss _ 30 _ (ap not (fit-has x s message minute f .timely))
+          ∙ first-miss _ 30 _ (ap not (fit-has x s message minute f .inside))
           ∙ ap₂ (λ (h r : Bool). first ((h && not r, 23) ∷ [])) eh er
 
       again : isHeard (s .heard) (index message) ≡ true → Step x s (arrival message minute) (after x s (arrival message minute))

@@ -1,7 +1,8 @@
 -- Upload windows (02, U7): the promises hold.
 --
---   opens       the opening minute of a planned job is inside its window
---   windowed    the promises hold
+--   inside, window, outside, alone, clock    the promises about one arrival
+--   there, back                              that about the arrivals that count, in both directions
+--   windowed                                 the promises hold
 use mathlib.Core.Path.{_≡_, refl, sym, ap, ap₂, _∙_}
 use mathlib.Core.Bool.{Bool, true, false, not, _&&_, _||_, true≢false, and-eq-true-iff}
 use mathlib.Core.Logic.{_↔_, ⊎-elim}
@@ -12,7 +13,7 @@ use native.Mathlib.Omega.{arith}
 use lib.Dec.{eqb, leb, ltb}
 use lib.ListN.{length}
 use borrow.Author.Tests.{eq-eqb, leb-true, ltb-true, le-leb, lt-ltb}
-use Rattle.algebra.proofs.Tests.{by-test, tests-alike, or-true}
+use Rattle.algebra.proofs.Tests.{tests-alike, or-true}
 use Rattle.refusal.specs.Chain.{first, outcome}
 use Rattle.refusal.proofs.Chains.{first-hit, first-append}
 use Rattle.plan.specs.declared.Job.{Job}
@@ -21,11 +22,12 @@ use Rattle.plan.proofs.Facts.{facts}
 use Rattle.arrival.specs.Arriving.{minuteTests}
 use Rattle.promise.specs.Demand3.{Task, Call, arrival, decoding, State, reply, after, run, fit, fitFor, hasFit}
 use Rattle.promise.specs.Retried.{index}
-use Rattle.promise.specs.Windows.{missed, Windowed, UploadWindows}
+use Rattle.promise.specs.Windows.{missed, UploadWindows}
 use Rattle.promise.proofs.Fits.{core, core-numbered, fit-core, fit-alike}
 use Rattle.promise.proofs.Steps.{Good, number, number-core, after-refused, fit-has, fit-good, good-or-still, named, own-fit, stepped}
 use Rattle.promise.proofs.Retried.{replied, reply-is}
 
+-- what is inside, as two comparisons
 inside : (job : Job) (minute : ℕ) → (inWindow job minute ≡ true) ↔ ((job .opening ≤ minute) × (minute < job .closing))
 unfolding inWindow
 inside job minute = (
@@ -35,6 +37,7 @@ inside job minute = (
   (λ h. ap₂ _&&_ (le-leb _ _ (h .0)) (lt-ltb _ _ (h .1))),
 )
 
+-- the opening minute of a planned job is inside its window
 opens : (job : Job) (points : List ℕ) → first (planTests job points) ≡ 0 → inWindow job (job .opening) ≡ true
 opens job points e = inside job (job .opening) .1 (omega arith, facts job points e .fits .opens-before)
 
@@ -54,27 +57,30 @@ module _ (x : Task) (s : State) (message : List ℕ) where
       alone true = refl
       alone false = refl
 
+  -- beside the window its minute plays no part
   window : (minute : ℕ) → fit x s message minute ≡ (inWindow (x .job) minute && fit x s message (x .job .opening))
   window minute =
       tests-alike _ _
       (λ f.
       let has = fit-has x s message minute f in
-      ap₂ _&&_ (has .timely) (fit-at minute f (x .job .opening) ∙ opens (x .job) (x .points) (has .planned)))
+      ap₂ _&&_ (has .inside) (fit-at minute f (x .job .opening) ∙ opens (x .job) (x .points) (has .planned)))
       (λ e.
       let both = and-eq-true-iff (inWindow (x .job) minute) (fit x s message (x .job .opening)) .0 e in
       fit-at (x .job .opening) (both .1) minute ∙ both .0)
 
+  -- it is told 30, and changes nothing
   outside : s .heard < 2 ^ x .job .hosts → (minute : ℕ) → fit x s message (x .job .opening) ≡ true → inWindow (x .job) minute ≡ false
       → (reply x s (arrival message minute) ≡ missed) × (after x s (arrival message minute) ≡ s)
   unfolding minuteTests missed replied outcome
-  outside none minute f late =
+  outside none minute f out =
       let has = fit-has x s message (x .job .opening) f in
       let told : number x s message minute ≡ 30
       = number-core x s (fit-good x s message (x .job .opening) f none) message minute
       ∙ first-append (core (x .job) message) _ (core-numbered (x .job) message) (has .clear)
-      ∙ first-hit _ 30 _ (ap not late) in
+      ∙ first-hit _ 30 _ (ap not out) in
       (reply-is x s message minute told refl, after-refused x s message minute (λ z. suc-ne-zero 29 (sym told ∙ z)))
 
+-- of the state, the length of the store alone plays a part
 alone : (x : Task) (s s' : State) → length (s .store) ≡ length (s' .store) → (message : List ℕ) (minute : ℕ) → fit x s message minute ≡ fit x s' message minute
 unfolding fit
 alone x s s' same message minute =
@@ -88,6 +94,7 @@ kept-length x s c =
     ⊎-elim (λ (good : Good x s). stepped x s good c .good .room ∙ sym (good .room)) (λ still. ap (λ (t : State). length (t .store)) (still c))
     (good-or-still x s)
 
+-- whatever calls come before
 clock : (x : Task) (before : List Call) (s : State) (message : List ℕ) (minute : ℕ) → fit x (run x s before) message minute ≡ fit x s message minute
 unfolding run
 clock x [] s message minute = refl
@@ -100,6 +107,7 @@ module _ (x : Task) (i : ℕ) where
       (before : List Call) × (rest : List Call) × (message : List ℕ) × (minute : ℕ) × (calls ≡ before ++ (arrival message minute ∷ rest))
       × (index message ≡ i) × (inWindow (x .job) minute ≡ true) × (fit x s message (x .job .opening) ≡ true)
 
+  -- the first call counts, or a later one does
   own-counted : (s : State) (c : Call) (cs : List Call) → fitFor x s i c ≡ true → Counted s (c ∷ cs)
   unfolding fitFor
   own-counted s (arrival message minute) cs f =
@@ -109,17 +117,18 @@ module _ (x : Task) (i : ℕ) where
   own-counted s (decoding table) cs f = absurd (true≢false (sym f))
 
   later-counted : (s : State) (c : Call) (cs : List Call) → Counted (after x s c) cs → Counted s (c ∷ cs)
-  later-counted s c cs (before, rest, message, minute, e, at, timely, f) = (
+  later-counted s c cs (before, rest, message, minute, e, at, within, f) = (
     c ∷ before,
     rest,
     message,
     minute,
     ap (λ (l : List Call). c ∷ l) e,
     at,
-    timely,
+    within,
     alone x s (after x s c) (sym (kept-length x s c)) message (x .job .opening) ∙ f,
   )
 
+  -- a host with a fit message has such an arrival, and the other way round
   there : (calls : List Call) (s : State) → hasFit x s calls i ≡ true → Counted s calls
   unfolding hasFit
   there [] s e = absurd (true≢false (sym e))
@@ -133,12 +142,12 @@ module _ (x : Task) (i : ℕ) where
   back : (before rest : List Call) (message : List ℕ) (minute : ℕ) → index message ≡ i → inWindow (x .job) minute ≡ true
       → (s : State) → fit x s message (x .job .opening) ≡ true → hasFit x s (before ++ (arrival message minute ∷ rest)) i ≡ true
   unfolding hasFit
-  back [] rest message minute at timely s f =
+  back [] rest message minute at within s f =
       ap (λ (t : Bool). t || hasFit x (after x s (arrival message minute)) rest i)
-      (own-fit x s message minute (window x s message minute ∙ ap₂ _&&_ timely f) i at)
-  back (c ∷ before) rest message minute at timely s f =
+      (own-fit x s message minute (window x s message minute ∙ ap₂ _&&_ within f) i at)
+  back (c ∷ before) rest message minute at within s f =
       or-true (fitFor x s i c) _
-      (back before rest message minute at timely (after x s c) (alone x (after x s c) s (kept-length x s c) message (x .job .opening) ∙ f))
+      (back before rest message minute at within (after x s c) (alone x (after x s c) s (kept-length x s c) message (x .job .opening) ∙ f))
 
 pub windowed : UploadWindows
 windowed x = record {
@@ -149,7 +158,7 @@ windowed x = record {
   outside = λ s none message minute. outside x s message none minute;
   counted = λ s calls i. (
     there x i calls s,
-    (λ (before, rest, message, minute, e, at, timely, f).
-        ap (λ (cs : List Call). hasFit x s cs i) e ∙ back x i before rest message minute at timely s f),
+    (λ (before, rest, message, minute, e, at, within, f).
+        ap (λ (cs : List Call). hasFit x s cs i) e ∙ back x i before rest message minute at within s f),
   );
 }

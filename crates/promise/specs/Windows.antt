@@ -1,7 +1,7 @@
 -- Upload windows (02, U7).
 -- A host's index counts from 0: host i has index i - 1.
 --
---   missed               == what a fit message is told outside the window: 30
+--   missed               == what a message is told that is fit but for its minute: 30
 --   Windowed x           == the promises of U7 for a job
 --   UploadWindows        == they hold for every job
 use mathlib.Core.Path.{_≡_}

@@ -31,7 +31,7 @@ pub fn expected(random: &mut Random) -> Expected<JobCall> {
 }
 
 /// An arrival at a job with points 1..N: anything is in the store, hosts 1, 2 and 5 are heard, and
-/// the message is a host's true product, in a minute of the window.
+/// the message is a host's true product, at a minute of the window.
 pub fn drawn(random: &mut Random, line: Line, host: u32) -> JobCall {
     let whole = WholeJob::drawn(random, line, (1..=line[9]).collect());
     let mut call = whole.call(Act::Arrive);
@@ -154,9 +154,9 @@ fn damaged(random: &mut Random) -> Expected<JobCall> {
     let mut calls = Vec::new();
     for (i, (reading, due)) in readings.enumerate() {
         let message = reading.message;
-        let is_late = i % 3 == 1;
+        let is_outside = i % 3 == 1;
         let due = if due == 0 {
-            due_of_fit(&message, is_late)
+            due_of_fit(&message, is_outside)
         } else {
             due
         };
@@ -164,7 +164,7 @@ fn damaged(random: &mut Random) -> Expected<JobCall> {
             message,
             ..base.clone()
         };
-        if is_late {
+        if is_outside {
             call.minute = call.job.closing;
         }
         calls.push((call, due));
@@ -174,14 +174,14 @@ fn damaged(random: &mut Random) -> Expected<JobCall> {
 
 /// What is due for a message that reading allows: the headers that differ from that of the
 /// reading cases at most in the host are the job's.
-fn due_of_fit(bytes: &[u8], is_late: bool) -> u32 {
+fn due_of_fit(bytes: &[u8], is_outside: bool) -> u32 {
     let mut header = message(&FIELDS, &[]);
     header[7] = bytes[7];
     if bytes[..16] != header {
         22
     } else if bytes[7] > 10 {
         12
-    } else if is_late {
+    } else if is_outside {
         30
     } else {
         23

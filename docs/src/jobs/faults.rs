@@ -132,7 +132,7 @@ const LIMITS: [(Line, u32); 31] = [
 ];
 
 /// Calls on the jobs at the limits, with windows in turn, nothing in the store and no host heard: an
-/// arrival of host 1 in the last minute, which is fit if the job is, or a decoding, for which 24 is due
+/// arrival of host 1 at the last minute, which is fit if the job is, or a decoding, for which 24 is due
 /// then.
 pub fn limits(act: Act) -> Expected<JobCall> {
     let mut calls = Vec::new();

@@ -224,7 +224,7 @@ const DAMAGES: [(u32, fn(&mut Vec<u8>)); 21] = [
     }),
 ];
 
-/// A message of any host arrives damaged, in any minute.
+/// A message of any host arrives damaged, at any minute.
 fn damaged(random: &mut Random, story: &mut Story) {
     let (due, damage) = DAMAGES[random.index(DAMAGES.len())];
     let mut call = story.arrival(random);
@@ -233,7 +233,7 @@ fn damaged(random: &mut Random, story: &mut Story) {
     story.changes_nothing(call, due);
 }
 
-/// A message arrives in any minute that is fit for another job: another kind, job number, modulus, or
+/// A message arrives at any minute that is fit for another job: another kind, job number, modulus, or
 /// other sizes. Its elements are all 0, which every modulus allows.
 fn foreign(random: &mut Random, story: &mut Story) {
     let own = story.whole.fields(random.within(1, story.whole.job.hosts));
@@ -253,7 +253,7 @@ fn foreign(random: &mut Random, story: &mut Story) {
     story.changes_nothing(call, 22);
 }
 
-/// A message arrives in any minute that is fit but for a host above N; where N is 64 there is none,
+/// A message arrives at any minute that is fit but for a host above N; where N is 64 there is none,
 /// and the next number is no host of any job.
 fn above(random: &mut Random, story: &mut Story) {
     let hosts = story.whole.job.hosts;

@@ -73,14 +73,14 @@ impl Story<'_> {
         }
     }
 
-    /// A message arrives from a host with these elements, in any minute of the window.
+    /// A message arrives from a host with these elements, at any minute of the window.
     pub fn answers(&mut self, host: u32, elements: &[u32]) {
         let minutes = &mut Random::new(self.calls.len() as u64);
         let minute = minutes.inside(self.whole.job.window());
         self.answers_at(minute, host, elements);
     }
 
-    /// A message arrives from a host with these elements in a minute: outside the window it is
+    /// A message arrives from a host with these elements at a minute: outside the window it is
     /// refused with 30. Inside it is taken if the host has none in yet, it is in already if the
     /// host's first had the same elements, else it is refused with 23.
     pub fn answers_at(&mut self, minute: u32, host: u32, elements: &[u32]) {
@@ -122,7 +122,7 @@ impl Story<'_> {
         self.answers_falsely_at(random, minute, host);
     }
 
-    /// A message of a host arrives in a minute whose elements are any other block.
+    /// A message of a host arrives at a minute whose elements are any other block.
     pub fn answers_falsely_at(&mut self, random: &mut Random, minute: u32, host: u32) {
         let truth = &self.whole.products[host as usize - 1];
         let mut elements = random.elements(truth.len(), self.whole.q);

@@ -38,7 +38,7 @@ fn with_window(call: JobCall, window: Window) -> JobCall {
     JobCall { job, ..call }
 }
 
-/// Arrivals in each minute of interest of each window: of a host that is not heard, and of one whose
+/// Arrivals at each minute of interest of each window: of a host that is not heard, and of one whose
 /// block holds the message, or another.
 fn each_minute(random: &mut Random) -> Expected<JobCall> {
     let mut calls = Vec::new();
@@ -58,7 +58,7 @@ fn each_minute(random: &mut Random) -> Expected<JobCall> {
     calls
 }
 
-/// Arrivals and decodings of jobs whose opening is not before their closing: in any minute, of hosts
+/// Arrivals and decodings of jobs whose opening is not before their closing: at any minute, of hosts
 /// heard and not heard, and with a store or a table of another length.
 fn no_windows(random: &mut Random) -> Expected<JobCall> {
     let mut calls = Vec::new();
@@ -108,13 +108,13 @@ pub fn told(random: &mut Random) -> Vec<JobCall> {
     calls
 }
 
-/// A host's true product arrives in a minute.
+/// A host's true product arrives at a minute.
 fn truly(story: &mut Story, minute: u32, host: u32) {
     let whole = story.whole;
     story.answers_at(minute, host, &whole.products[host as usize - 1]);
 }
 
-/// The clock goes back and forth: the hosts answer in the last minute and in the first in turn, and
+/// The clock goes back and forth: the hosts answer at the last minute and at the first in turn, and
 /// after each a message comes when the window is closed, or not yet open. All that came inside are
 /// decoded.
 fn back_and_forth(random: &mut Random, whole: &WholeJob) -> Vec<JobCall> {
@@ -154,7 +154,7 @@ fn twice(random: &mut Random, whole: &WholeJob, is_first_outside: bool) -> Vec<J
 }
 
 /// One host fewer than are needed answers inside the window, all others outside: decoding finds too
-/// few. One of the others answers again, in the last minute: now it is done, and after the closing
+/// few. One of the others answers again, at the last minute: now it is done, and after the closing
 /// minute still.
 fn one_too_few(random: &mut Random, whole: &WholeJob) -> Vec<JobCall> {
     let window = whole.job.window();

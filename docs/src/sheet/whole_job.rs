@@ -90,7 +90,7 @@ impl WholeJob {
     }
 
     /// A call with everything in it that the job says: no host is heard, the store is all 0, the table
-    /// has exact length, and an arrival comes in the opening minute. Its message is still to be put in.
+    /// has exact length, and an arrival comes at the opening minute. Its message is still to be put in.
     pub fn call(&self, act: Act) -> JobCall {
         JobCall {
             act,

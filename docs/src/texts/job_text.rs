@@ -65,7 +65,7 @@ impl JobText {
         text.answered(&random.order(job.hosts))
     }
 
-    /// The job with answers of these hosts, one after another, in any minutes of the window.
+    /// The job with answers of these hosts, one after another, at any minutes of the window.
     pub fn answered(&self, hosts: &[u32]) -> JobText {
         let minutes = &mut Random::new(self.job_number.into());
         let answer = |&host: &u32| [host, minutes.inside(self.window)];

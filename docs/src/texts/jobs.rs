@@ -138,7 +138,7 @@ pub fn drawn(random: &mut Random, line: Line, kind: u32) -> JobText {
 }
 
 /// All hosts in random order, inside the window; here and there one once more, one outside the
-/// window, or a number that is no host's in any minute.
+/// window, or a number that is no host's at any minute.
 fn disturbed(random: &mut Random, hosts: u32, window: Window) -> Vec<Answer> {
     let mut order: Vec<Answer> = Vec::new();
     for host in random.order(hosts) {

@@ -23,7 +23,7 @@ pub fn windows(random: &mut Random) -> Vec<Case> {
     groups.concat()
 }
 
-/// The sheet's smallest job under each window: host 2 answers in each minute of interest, the other
+/// The sheet's smallest job under each window: host 2 answers at each minute of interest, the other
 /// two in the first and in the last, and a number that is no host's in each.
 fn each_minute() -> Vec<Case> {
     let mut cases = Vec::new();
@@ -61,7 +61,7 @@ fn no_windows(random: &mut Random) -> Vec<Case> {
 }
 
 /// A job in each layout. One host fewer than are needed answers inside the window, all others before
-/// it and after it: too few are heard. Then one of the others answers once more, in the last minute.
+/// it and after it: too few are heard. Then one of the others answers once more, at the last minute.
 /// And each host answers twice, outside first or inside first.
 fn inside_and_outside(random: &mut Random) -> Vec<Case> {
     let mut cases = Vec::new();
@@ -76,8 +76,8 @@ fn inside_and_outside(random: &mut Random) -> Vec<Case> {
         let again = few.order[needed - 1][0];
         few.order.push([again, job.window[1] - 1]);
         cases.push(told(&few, "\nTABLE\n"));
-        let late = |&[host, inside]: &Answer| [[host, random.outside(job.window)], [host, inside]];
-        let mut twice: Vec<[Answer; 2]> = job.order.iter().map(late).collect();
+        let both = |&[host, inside]: &Answer| [[host, random.outside(job.window)], [host, inside]];
+        let mut twice: Vec<[Answer; 2]> = job.order.iter().map(both).collect();
         for _ in 0..2 {
             let mut again = job.clone();
             again.order = twice.concat();
