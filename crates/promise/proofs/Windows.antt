@@ -4,7 +4,7 @@
 --   there, back                              that about the arrivals that count, in both directions
 --   windowed                                 the promises hold
 use mathlib.Core.Path.{_≡_, refl, sym, ap, ap₂, _∙_}
-use mathlib.Core.Bool.{Bool, true, false, not, _&&_, _||_, true≢false, and-eq-true-iff}
+use mathlib.Core.Bool.{Bool, true, false, not, _&&_, _||_, true≢false, and-true, and-eq-true-iff}
 use mathlib.Core.Logic.{_↔_, ⊎-elim}
 use mathlib.Core.List.{List, [], _∷_, _++_}
 use Prim.Native.Nat.{ℕ, _^_, _<_, _≤_}
@@ -51,11 +51,7 @@ module _ (x : Task) (s : State) (message : List ℕ) where
       let has = fit-has x s message minute f in
       fit-core (x .job) (x .points) (s .heard) (s .store) message other (has .planned) (has .room)
       ∙ ap (λ (t : Bool). inWindow (x .job) other && t) (eq-eqb _ 0 (has .clear))
-      ∙ alone (inWindow (x .job) other)
-    where
-      alone : (t : Bool) → (t && true) ≡ t
-      alone true = refl
-      alone false = refl
+      ∙ and-true (inWindow (x .job) other)
 
   -- beside the window its minute plays no part
   window : (minute : ℕ) → fit x s message minute ≡ (inWindow (x .job) minute && fit x s message (x .job .opening))

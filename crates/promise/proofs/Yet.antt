@@ -5,7 +5,7 @@
 --   decode-number  a decoding in a good state is refused where too few are heard, and by no other number
 --   yet            the claim about a whole list
 use mathlib.Core.Path.{_≡_, refl, sym, ap, ap₂, _∙_, subst}
-use mathlib.Core.Bool.{Bool, true, false, cond, not, _&&_, _||_}
+use mathlib.Core.Bool.{Bool, true, false, cond, not, _&&_, _||_, and-true}
 use mathlib.Core.Logic.{_↔_, ⊎-elim}
 use mathlib.Core.List.{List, [], _∷_, _++_}
 use Prim.Native.Nat.{ℕ, zero, suc, _-_, _^_, _<_, _≤_}
@@ -83,11 +83,8 @@ module _ (x : Task) (ok : Accepted x) (ma mb : List ℕ) (i : ℕ) (low : i < x 
       (fit-core (x .job) (x .points) (s .heard) (s .store) message minute (ok .planned) room
       ∙ ap (λ (t : Bool). inWindow (x .job) minute && t) (eq-eqb (first (core (x .job) message)) 0 core-clear))
       (eq-eqb (headerOf message .host - 1) i (ap (λ (h : Header). h .host - 1) header-is ∙ (let e : suc i - 1 ≡ i = omega arith in e)))
-      ∙ alone (inWindow (x .job) minute)
-    where
-      alone : (t : Bool) → ((t && true) && true) ≡ t
-      alone true = refl
-      alone false = refl
+      ∙ and-true (inWindow (x .job) minute && true)
+      ∙ and-true (inWindow (x .job) minute)
 
 pub heard-below : (q size heard : ℕ) (store : List ℕ) (n : ℕ)
     → ((i : ℕ) → i < n → isHeard heard i ≡ true → AllBelow q (blockAt size store i)) → heardBelow q size heard store n ≡ true
