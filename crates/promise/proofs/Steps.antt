@@ -56,10 +56,7 @@ pub record Step (x : Task) (s : State) (c : Call) (t : State) : Type 0 where
 
 -- ---- what an arrival leaves, by its number
 
-module _ (x : Task) (s : State) (message : List ℕ) (minute : ℕ) where
-  unfoldable pub number : ℕ
-  number = first (arrivalTests (x .job) (x .points) (s .heard) (s .store) message minute)
-
+module _ (x : Task) (s : State) (message : List ℕ) where
   taken : State
   taken = record {
     heard = withHost (s .heard) (index message);
@@ -73,27 +70,31 @@ module _ (x : Task) (s : State) (message : List ℕ) (minute : ℕ) where
     store = outcome n (cond h (s .store) (withBlock (answerLength (x .job)) (s .store) (index message) (elements message))) (λ k. s .store);
   }
 
-  after-left : after x s (arrival message minute) ≡ left number (isHeard (s .heard) (index message))
+module _ (x : Task) (s : State) (message : List ℕ) (minute : ℕ) where
+  unfoldable pub number : ℕ
+  number = first (arrivalTests (x .job) (x .points) (s .heard) (s .store) message minute)
+
+  after-left : after x s (arrival message minute) ≡ left x s message number (isHeard (s .heard) (index message))
   unfolding after arrives arrived entered storeAfter storeEntered unlessRefused left number
   after-left = refl
 
-  after-taken : number ≡ 0 → isHeard (s .heard) (index message) ≡ false → after x s (arrival message minute) ≡ taken
+  after-taken : number ≡ 0 → isHeard (s .heard) (index message) ≡ false → after x s (arrival message minute) ≡ taken x s message
   unfolding left taken outcome
-  after-taken e h = after-left ∙ ap₂ left e h
+  after-taken e h = after-left ∙ ap₂ (left x s message) e h
 
   pub after-refused : (number ≡ 0 → ⊥) → after x s (arrival message minute) ≡ s
   unfolding left outcome
   after-refused ne = after-left ∙ go number ne
     where
-      go : (n : ℕ) → (n ≡ 0 → ⊥) → left n (isHeard (s .heard) (index message)) ≡ s
+      go : (n : ℕ) → (n ≡ 0 → ⊥) → left x s message n (isHeard (s .heard) (index message)) ≡ s
       go zero ne = absurd (ne refl)
       go (suc n) ne = refl
 
   pub after-again : isHeard (s .heard) (index message) ≡ true → after x s (arrival message minute) ≡ s
   unfolding left outcome
-  after-again h = after-left ∙ ap (left number) h ∙ go number
+  after-again h = after-left ∙ ap (left x s message number) h ∙ go number
     where
-      go : (n : ℕ) → left n true ≡ s
+      go : (n : ℕ) → left x s message n true ≡ s
       go zero = refl
       go (suc n) = refl
 
@@ -240,11 +241,11 @@ module _ (x : Task) (s : State) (good : Good x s) where
 
         -- the block of another host stays
         stays : (i : ℕ) → (i ≡ index message → ⊥)
-            → blockAt (answerLength (x .job)) (taken x s message minute .store) i ≡ blockAt (answerLength (x .job)) (s .store) i
+            → blockAt (answerLength (x .job)) (taken x s message .store) i ≡ blockAt (answerLength (x .job)) (s .store) i
         unfolding taken
         stays = block-other (answerLength (x .job)) (s .store) (index message) (elements message) block (own .fills)
 
-        take : Step x s (arrival message minute) (taken x s message minute)
+        take : Step x s (arrival message minute) (taken x s message)
         unfolding taken bytes
         take = record {
           good = record {

@@ -22,7 +22,7 @@ use Rattle.plan.proofs.Facts.{facts}
 use Rattle.arrival.specs.Arriving.{minuteTests}
 use Rattle.promise.specs.Demand3.{Task, Call, arrival, decoding, State, reply, after, run, fit, fitFor, hasFit}
 use Rattle.promise.specs.Retried.{index}
-use Rattle.promise.specs.Windows.{missed, UploadWindows}
+use Rattle.promise.specs.Windows.{missed, Counted, UploadWindows}
 use Rattle.promise.proofs.Fits.{core, core-numbered, fit-core, fit-alike}
 use Rattle.promise.proofs.Steps.{Good, number, number-core, after-refused, fit-has, fit-good, good-or-still, named, own-fit, stepped}
 use Rattle.promise.proofs.Retried.{replied, reply-is}
@@ -97,14 +97,8 @@ clock x [] s message minute = refl
 clock x (c ∷ before) s message minute = clock x before (after x s c) message minute ∙ alone x (after x s c) s (kept-length x s c) message minute
 
 module _ (x : Task) (i : ℕ) where
-  -- an arrival inside the window whose message is fit and names the host of index i, in a list of calls
-  abbrev Counted : State → List Call → Type 0
-  Counted s calls =
-      (before : List Call) × (rest : List Call) × (message : List ℕ) × (minute : ℕ) × (calls ≡ before ++ (arrival message minute ∷ rest))
-      × (index message ≡ i) × (inWindow (x .job) minute ≡ true) × (fit x s message (x .job .opening) ≡ true)
-
   -- the first call counts, or a later one does
-  own-counted : (s : State) (c : Call) (cs : List Call) → fitFor x s i c ≡ true → Counted s (c ∷ cs)
+  own-counted : (s : State) (c : Call) (cs : List Call) → fitFor x s i c ≡ true → Counted x s (c ∷ cs) i
   unfolding fitFor
   own-counted s (arrival message minute) cs f =
       let own = named x s message minute i f in
@@ -112,7 +106,7 @@ module _ (x : Task) (i : ℕ) where
       ([], cs, message, minute, refl, own .1, both .0, both .1)
   own-counted s (decoding table) cs f = absurd (true≢false (sym f))
 
-  later-counted : (s : State) (c : Call) (cs : List Call) → Counted (after x s c) cs → Counted s (c ∷ cs)
+  later-counted : (s : State) (c : Call) (cs : List Call) → Counted x (after x s c) cs i → Counted x s (c ∷ cs) i
   later-counted s c cs (before, rest, message, minute, e, at, within, f) = (
     c ∷ before,
     rest,
@@ -125,13 +119,13 @@ module _ (x : Task) (i : ℕ) where
   )
 
   -- a host with a fit message has such an arrival, and the other way round
-  there : (calls : List Call) (s : State) → hasFit x s calls i ≡ true → Counted s calls
+  there : (calls : List Call) (s : State) → hasFit x s calls i ≡ true → Counted x s calls i
   unfolding hasFit
   there [] s e = absurd (true≢false (sym e))
   there (c ∷ cs) s e = go (fitFor x s i c) (own-counted s c cs) (λ h. later-counted s c cs (there cs (after x s c) h)) e
     where
-      go : (t : Bool) → (t ≡ true → Counted s (c ∷ cs)) → (hasFit x (after x s c) cs i ≡ true → Counted s (c ∷ cs))
-          → (t || hasFit x (after x s c) cs i) ≡ true → Counted s (c ∷ cs)
+      go : (t : Bool) → (t ≡ true → Counted x s (c ∷ cs) i) → (hasFit x (after x s c) cs i ≡ true → Counted x s (c ∷ cs) i)
+          → (t || hasFit x (after x s c) cs i) ≡ true → Counted x s (c ∷ cs) i
       go true own rest e = own refl
       go false own rest e = rest e
 

@@ -2,6 +2,7 @@
 -- A host's index counts from 0: host i has index i - 1.
 --
 --   missed               == what a message is told that is fit but for its minute: 30
+--   Counted x s calls i  == among the calls is an arrival inside the window whose message is fit and names the host of index i
 --   Windowed x           == the promises of U7 for a job
 --   UploadWindows        == they hold for every job
 use mathlib.Core.Path.{_≡_}
@@ -16,6 +17,11 @@ use Rattle.promise.specs.Retried.{index}
 
 unfoldable pub missed : Reply
 missed = record { number = 30; already = false; table = [] }
+
+abbrev pub Counted : Task → State → List Call → ℕ → Type 0
+Counted x s calls i =
+    (before : List Call) × (rest : List Call) × (message : List ℕ) × (minute : ℕ) × (calls ≡ before ++ (arrival message minute ∷ rest))
+    × (index message ≡ i) × (inWindow (x .job) minute ≡ true) × (fit x s message (x .job .opening) ≡ true)
 
 pub record Windowed (x : Task) : Type 0 where
   -- "from the opening minute on and up to the one before the closing minute"
@@ -34,10 +40,7 @@ pub record Windowed (x : Task) : Type 0 where
       → fit x s message (x .job .opening) ≡ true → inWindow (x .job) minute ≡ false
       → (reply x s (arrival message minute) ≡ missed) × (after x s (arrival message minute) ≡ s)
   -- "K that arrived inside the window": the arrivals that count, from any state on, are those inside whose message is fit
-  pub counted : (s : State) (calls : List Call) (i : ℕ)
-      → (hasFit x s calls i ≡ true)
-      ↔ ((before : List Call) × (rest : List Call) × (message : List ℕ) × (minute : ℕ) × (calls ≡ before ++ (arrival message minute ∷ rest))
-      × (index message ≡ i) × (inWindow (x .job) minute ≡ true) × (fit x s message (x .job .opening) ≡ true))
+  pub counted : (s : State) (calls : List Call) (i : ℕ) → (hasFit x s calls i ≡ true) ↔ Counted x s calls i
 
 abbrev pub UploadWindows : Type 0
 UploadWindows = (x : Task) → Windowed x
