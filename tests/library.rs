@@ -14,7 +14,7 @@ mod random;
 use random::Random;
 
 extern "C" {
-    /// The library's one function (include/mukerihe.h).
+    /// The product, one of the library's two functions (include/mukerihe.h).
     fn mukerihe_product(
         modulus: u32,
         rows: u32,

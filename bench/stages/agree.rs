@@ -1,11 +1,12 @@
 //! The library and plain Rust give the same outcomes: random jobs, whole and with a fault put in, masks
-//! drawn from random words, and pages of random tables.
+//! drawn from random words, pages of random tables, and a host's whole part on random messages.
 
 use crate::calls::{Calls, Plain};
 use crate::drawing::lowest_skipped;
 use crate::library::Library;
 use crate::random::Random;
 use crate::work::{header, prime, run, take, Room, Shape, Work};
+use plain::message::Header;
 use plain::page::page_length;
 use plain::plan::Job;
 use plain::share::Matrix;
@@ -20,8 +21,14 @@ const DRAWINGS: u32 = 5000;
 /// How many pages are written.
 const PAGES: u32 = 5000;
 
+/// How many pairs of messages are answered, and the numbers that they get.
+const ANSWERS: u32 = 20_000;
+const ANSWER_NUMBERS: [u32; 17] = [
+    0, 1, 2, 6, 12, 13, 14, 16, 17, 18, 19, 20, 1001, 1003, 1004, 1005, 1006,
+];
+
 /// Runs random jobs by both, the layouts in turn and every fifth with the greatest elements, and calls with
-/// faults; then draws masks and writes pages. Stops where two outcomes differ.
+/// faults; then draws masks, writes pages and answers messages. Stops where two outcomes differ.
 pub fn check() {
     let mut random = Random::new(1);
     for i in 0..JOBS {
@@ -47,6 +54,12 @@ pub fn check() {
         each_once(pages),
         [0, 1, 2, 13, 14, 28],
         "pages have other outcomes"
+    );
+    let answers = (0..ANSWERS).map(|_| same_answer(&mut random));
+    assert_eq!(
+        each_once(answers),
+        ANSWER_NUMBERS,
+        "answers have other outcomes"
     );
 }
 
@@ -185,6 +198,9 @@ fn same_calls(random: &mut Random, work: &Work, room: &Room) {
         let [a, b] = [0, 1].map(|i| &room.messages[i][16..]);
         calls.product_of_bytes(job.modulus, sizes, a, b, out)
     });
+    same("answer", &room.answer_message, |calls, out| {
+        calls.answer(&room.messages[0], &room.messages[1], out)
+    });
     let fields = header(job, random.within(0, 4), host, sizes[0], sizes[1]);
     same("write", &room.messages[0], |calls, out| {
         calls.write(&fields, &room.shares[0], out)
@@ -250,4 +266,84 @@ fn same_page(random: &mut Random) -> u32 {
     });
     let outcome = Plain.page(modulus, t, r, &table, &mut bytes);
     outcome.err().unwrap_or(0)
+}
+
+/// Answers a pair of messages by both, some with up to three faults; the number of the refusal, or 0. A
+/// refused call leaves the bytes as they were.
+fn same_answer(random: &mut Random) -> u32 {
+    let (mut messages, sizes) = pair(random);
+    for _ in 0..random.index(2) * random.index(4) {
+        let which = random.index(2);
+        spoil_message(random, &mut messages[which]);
+    }
+    let right = 16 + 4 * (sizes[0] * sizes[2]).min(4096) as usize;
+    let room = [right, right, right + 5, right - 1, random.index(right)][random.index(5)];
+    let bytes = vec![random.byte(); room];
+    let [a, b] = &messages;
+    same("answer", &bytes, |calls, out| {
+        let outcome = calls.answer(a, b, out);
+        assert!(
+            outcome.is_ok() || *out == bytes,
+            "a refused answer is written"
+        );
+        outcome
+    });
+    let outcome = Plain.answer(a, b, &mut bytes.clone());
+    outcome.err().unwrap_or(0)
+}
+
+/// The messages of a host's shares, at times of two jobs, hosts, moduli or sizes, or of other kinds; and
+/// the rows, inner size and columns.
+fn pair(random: &mut Random) -> ([Vec<u8>; 2], [u32; 3]) {
+    let [rows, columns] = match random.index(20) {
+        0 => [0; 2].map(|_| random.within(65, 99)),
+        _ => [0; 2].map(|_| random.within(1, 9)),
+    };
+    let inner = random.within(1, 9);
+    let first = Header {
+        kind: 1,
+        modulus: random.within(1, 4),
+        host: random.within(1, 64),
+        rows,
+        columns: inner,
+        number: random.word(),
+    };
+    let mut second = Header {
+        kind: 2,
+        rows: inner,
+        columns,
+        ..first
+    };
+    match random.index(20) {
+        0 => second.kind = random.within(1, 3),
+        1 => second.modulus = random.within(1, 4),
+        2 => second.host = random.within(1, 64),
+        3 => second.number = random.word(),
+        4 => second.rows = random.within(1, 9),
+        _ => {}
+    }
+    let messages = [first, second].map(|fields| message(random, &fields));
+    (messages, [rows, inner, columns])
+}
+
+/// A message with these fields and random elements.
+fn message(random: &mut Random, fields: &Header) -> Vec<u8> {
+    let count = (fields.rows * fields.columns) as usize;
+    let elements = random.elements(count, prime(fields.modulus));
+    let mut message = vec![0; 16 + 4 * count];
+    assert_eq!(Plain.write(fields, &elements, &mut message), Ok(()));
+    message
+}
+
+/// Puts one fault into a message; some leave it fit.
+fn spoil_message(random: &mut Random, message: &mut Vec<u8>) {
+    let length = message.len();
+    match random.index(5) {
+        0 => message.truncate(random.index(length + 1)),
+        1 => message.push(0),
+        2 if length >= 16 => message[random.index(5)] ^= 1,
+        3 if length >= 16 => message[random.within(5, 15) as usize] = random.byte() % 68,
+        _ if length > 16 => message[random.within(16, length as u32 - 1) as usize] = random.byte(),
+        _ => {}
+    }
 }

@@ -1,5 +1,6 @@
 //! The calls of a job, the drawing of masks and the page, by the library and in plain Rust.
 
+use plain::answer::answer;
 use plain::arrival::arrive;
 use plain::decode::decode;
 use plain::masks::draw_masks;
@@ -14,7 +15,8 @@ pub type Outcome = Result<(), u32>;
 
 /// One who makes the calls.
 pub trait Calls {
-    fn plan(&self, job: &Job, points: &[u32]) -> Result<u32, u32>;
+    /// Layout, K, and rows, inner and columns of the blocks.
+    fn plan(&self, job: &Job, points: &[u32]) -> Result<[u32; 5], u32>;
 
     fn share(
         &self,
@@ -45,9 +47,11 @@ pub trait Calls {
         out: &mut [u8],
     ) -> Outcome;
 
+    fn answer(&self, a: &[u8], b: &[u8], out: &mut [u8]) -> Result<usize, u32>;
+
     fn write(&self, header: &Header, elements: &[u32], out: &mut [u8]) -> Outcome;
 
-    fn read(&self, message: &[u8], out: &mut [u32]) -> Outcome;
+    fn read(&self, message: &[u8], out: &mut [u32]) -> Result<Header, u32>;
 
     fn arrive(
         &self,
@@ -77,8 +81,10 @@ pub trait Calls {
 pub struct Plain;
 
 impl Calls for Plain {
-    fn plan(&self, job: &Job, points: &[u32]) -> Result<u32, u32> {
-        plan(job, points).map(|plan| plan.layout.needed)
+    fn plan(&self, job: &Job, points: &[u32]) -> Result<[u32; 5], u32> {
+        let plan = plan(job, points)?;
+        let [rows, inner, columns] = [plan.rows, plan.inner, plan.columns].map(|size| size as u32);
+        Ok([plan.layout.number, plan.layout.needed, rows, inner, columns])
     }
 
     fn share(
@@ -116,12 +122,16 @@ impl Calls for Plain {
         product_of_bytes(modulus, sizes, a, b, out)
     }
 
+    fn answer(&self, a: &[u8], b: &[u8], out: &mut [u8]) -> Result<usize, u32> {
+        answer(a, b, out)
+    }
+
     fn write(&self, header: &Header, elements: &[u32], out: &mut [u8]) -> Outcome {
         write_message(header, elements, out)
     }
 
-    fn read(&self, message: &[u8], out: &mut [u32]) -> Outcome {
-        read_message(message, out).map(|_| ())
+    fn read(&self, message: &[u8], out: &mut [u32]) -> Result<Header, u32> {
+        read_message(message, out)
     }
 
     fn arrive(

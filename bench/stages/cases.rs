@@ -26,10 +26,11 @@ pub struct Table {
 }
 
 /// All stages, as they come in a job, and a whole job.
-const STAGES: [Stage; 9] = [
+const STAGES: [Stage; 10] = [
     Stage::Plan,
     Stage::Share,
     Stage::Product,
+    Stage::Answer,
     Stage::Write,
     Stage::Read,
     Stage::Arrival,

@@ -1,31 +1,30 @@
-//! The library's calls: the functions of libbench_stages.a and of libmukerihe.a.
+//! The library's calls: the functions of libmukerihe_bank.a and of libmukerihe.a.
 
 use crate::calls::{Calls, Outcome};
 use plain::message::Header;
 use plain::plan::Job;
 use plain::share::Matrix;
 
-/// A job's numbers, as the library takes them.
-#[repr(C)]
-#[derive(Clone, Copy)]
-struct Numbers([u32; 13]);
-
-/// A message's fields, as the library takes them.
-#[repr(C)]
-#[derive(Clone, Copy)]
-struct Fields([u32; 6]);
-
 #[rustfmt::skip]
 extern "C" {
-    fn stages_plan(numbers: Numbers, points: *const u32, points_length: usize, needed: *mut u32) -> u32;
+    fn mukerihe_plan(
+        job: *const u32, job_length: usize, points: *const u32, points_length: usize,
+        values: *mut u32, values_length: usize,
+    ) -> u32;
 
-    fn stages_share(
-        second: bool, numbers: Numbers, points: *const u32, points_length: usize, host: u32,
+    fn mukerihe_share_a(
+        job: *const u32, job_length: usize, points: *const u32, points_length: usize, host: u32,
         elements: *const u32, elements_length: usize, masks: *const u32, masks_length: usize,
         out: *mut u32, out_length: usize,
     ) -> u32;
 
-    fn stages_product(
+    fn mukerihe_share_b(
+        job: *const u32, job_length: usize, points: *const u32, points_length: usize, host: u32,
+        elements: *const u32, elements_length: usize, masks: *const u32, masks_length: usize,
+        out: *mut u32, out_length: usize,
+    ) -> u32;
+
+    fn mukerihe_multiply(
         modulus: u32, rows: u32, inner: u32, columns: u32, a: *const u32, a_length: usize,
         b: *const u32, b_length: usize, out: *mut u32, out_length: usize,
     ) -> u32;
@@ -35,39 +34,49 @@ extern "C" {
         b: *const u8, b_length: usize, out: *mut u8, out_length: usize,
     ) -> u32;
 
-    fn stages_write(
-        fields: Fields, elements: *const u32, elements_length: usize, out: *mut u8, out_length: usize,
+    fn mukerihe_answer(
+        a: *const u8, a_length: usize, b: *const u8, b_length: usize, out: *mut u8, out_length: usize,
+        written: *mut usize,
     ) -> u32;
 
-    fn stages_read(
-        message: *const u8, message_length: usize, out: *mut u32, out_length: usize,
+    fn mukerihe_write(
+        fields: *const u32, fields_length: usize, elements: *const u32, elements_length: usize,
+        out: *mut u8, out_length: usize,
     ) -> u32;
 
-    fn stages_arrive(
-        numbers: Numbers, points: *const u32, points_length: usize, heard: *mut u64,
-        store: *mut u32, store_length: usize, message: *const u8, message_length: usize,
-        minute: u32,
+    fn mukerihe_read(
+        message: *const u8, message_length: usize, elements: *mut u32, elements_length: usize,
+        fields: *mut u32, fields_length: usize,
     ) -> u32;
 
-    fn stages_decode(
-        numbers: Numbers, points: *const u32, points_length: usize, heard: u64,
+    fn mukerihe_arrive(
+        job: *const u32, job_length: usize, points: *const u32, points_length: usize,
+        heard: *mut u64, store: *mut u32, store_length: usize, message: *const u8,
+        message_length: usize, minute: u32, already: *mut u32,
+    ) -> u32;
+
+    fn mukerihe_decode(
+        job: *const u32, job_length: usize, points: *const u32, points_length: usize, heard: u64,
         store: *const u32, store_length: usize, table: *mut u32, table_length: usize,
     ) -> u32;
 
-    fn stages_draw(
+    fn mukerihe_draw(
         modulus: u32, words: *const u32, words_length: usize, out: *mut u32, out_length: usize,
         used: *mut usize,
     ) -> u32;
 
-    fn stages_page(
+    fn mukerihe_page(
         modulus: u32, t: u32, r: u32, table: *const u32, table_length: usize,
         out: *mut u8, out_length: usize,
     ) -> u32;
 }
 
-/// The numbers of a job.
-fn numbers(job: &Job) -> Numbers {
-    Numbers([
+/// What stands in a place for one number before a call; a refused call leaves it there.
+const UNTOLD: u32 = 0xA5A5_A5A5;
+
+/// The words of a job, as the library takes them.
+fn words(job: &Job) -> [u32; 13] {
+    [
         job.modulus,
         job.t,
         job.s,
@@ -81,7 +90,40 @@ fn numbers(job: &Job) -> Numbers {
         job.number,
         job.opening,
         job.closing,
-    ])
+    ]
+}
+
+/// The words of a message's fields, as the library takes them.
+fn field_words(header: &Header) -> [u32; 6] {
+    [
+        header.kind,
+        header.modulus,
+        header.host,
+        header.rows,
+        header.columns,
+        header.number,
+    ]
+}
+
+/// The fields of a message by their words.
+fn header_of([kind, modulus, host, rows, columns, number]: [u32; 6]) -> Header {
+    Header {
+        kind,
+        modulus,
+        host,
+        rows,
+        columns,
+        number,
+    }
+}
+
+/// What was told by a call that returned a number; a refused one must have told nothing.
+fn told<T: PartialEq + Copy>(number: u32, told: T, untold: T) -> Result<T, u32> {
+    assert!(
+        number == 0 || told == untold,
+        "a refused call tells something"
+    );
+    outcome(number).map(|()| told)
 }
 
 /// What a returned number means.
@@ -96,11 +138,19 @@ fn outcome(number: u32) -> Outcome {
 pub struct Library;
 
 impl Calls for Library {
-    fn plan(&self, job: &Job, points: &[u32]) -> Result<u32, u32> {
-        let mut needed = 0;
-        let number =
-            unsafe { stages_plan(numbers(job), points.as_ptr(), points.len(), &mut needed) };
-        outcome(number).map(|()| needed)
+    fn plan(&self, job: &Job, points: &[u32]) -> Result<[u32; 5], u32> {
+        let (job, mut values) = (words(job), [UNTOLD; 5]);
+        let number = unsafe {
+            mukerihe_plan(
+                job.as_ptr(),
+                job.len(),
+                points.as_ptr(),
+                points.len(),
+                values.as_mut_ptr(),
+                values.len(),
+            )
+        };
+        told(number, values, [UNTOLD; 5])
     }
 
     fn share(
@@ -113,10 +163,15 @@ impl Calls for Library {
         masks: &[u32],
         out: &mut [u32],
     ) -> Outcome {
+        let job = words(job);
+        let share = match matrix {
+            Matrix::A => mukerihe_share_a,
+            Matrix::B => mukerihe_share_b,
+        };
         outcome(unsafe {
-            stages_share(
-                matches!(matrix, Matrix::B),
-                numbers(job),
+            share(
+                job.as_ptr(),
+                job.len(),
                 points.as_ptr(),
                 points.len(),
                 host,
@@ -139,7 +194,7 @@ impl Calls for Library {
         out: &mut [u32],
     ) -> Outcome {
         outcome(unsafe {
-            stages_product(
+            mukerihe_multiply(
                 modulus,
                 rows,
                 inner,
@@ -178,18 +233,28 @@ impl Calls for Library {
         })
     }
 
+    fn answer(&self, a: &[u8], b: &[u8], out: &mut [u8]) -> Result<usize, u32> {
+        let mut written = usize::MAX;
+        let number = unsafe {
+            mukerihe_answer(
+                a.as_ptr(),
+                a.len(),
+                b.as_ptr(),
+                b.len(),
+                out.as_mut_ptr(),
+                out.len(),
+                &mut written,
+            )
+        };
+        told(number, written, usize::MAX)
+    }
+
     fn write(&self, header: &Header, elements: &[u32], out: &mut [u8]) -> Outcome {
-        let fields = Fields([
-            header.kind,
-            header.modulus,
-            header.host,
-            header.rows,
-            header.columns,
-            header.number,
-        ]);
+        let fields = field_words(header);
         outcome(unsafe {
-            stages_write(
-                fields,
+            mukerihe_write(
+                fields.as_ptr(),
+                fields.len(),
                 elements.as_ptr(),
                 elements.len(),
                 out.as_mut_ptr(),
@@ -198,10 +263,19 @@ impl Calls for Library {
         })
     }
 
-    fn read(&self, message: &[u8], out: &mut [u32]) -> Outcome {
-        outcome(unsafe {
-            stages_read(message.as_ptr(), message.len(), out.as_mut_ptr(), out.len())
-        })
+    fn read(&self, message: &[u8], out: &mut [u32]) -> Result<Header, u32> {
+        let mut fields = [UNTOLD; 6];
+        let number = unsafe {
+            mukerihe_read(
+                message.as_ptr(),
+                message.len(),
+                out.as_mut_ptr(),
+                out.len(),
+                fields.as_mut_ptr(),
+                fields.len(),
+            )
+        };
+        told(number, fields, [UNTOLD; 6]).map(header_of)
     }
 
     fn arrive(
@@ -213,10 +287,12 @@ impl Calls for Library {
         message: &[u8],
         minute: u32,
     ) -> Result<u64, u32> {
-        let mut after = heard;
+        let job = words(job);
+        let (mut after, mut already) = (heard, UNTOLD);
         let number = unsafe {
-            stages_arrive(
-                numbers(job),
+            mukerihe_arrive(
+                job.as_ptr(),
+                job.len(),
                 points.as_ptr(),
                 points.len(),
                 &mut after,
@@ -225,9 +301,15 @@ impl Calls for Library {
                 message.as_ptr(),
                 message.len(),
                 minute,
+                &mut already,
             )
         };
-        outcome(number).map(|()| after)
+        let due = match number {
+            0 => u32::from(after == heard),
+            _ => UNTOLD,
+        };
+        assert_eq!(already, due, "an arrival tells something else");
+        told(number, after, heard)
     }
 
     fn decode(
@@ -238,9 +320,11 @@ impl Calls for Library {
         store: &[u32],
         table: &mut [u32],
     ) -> Outcome {
+        let job = words(job);
         outcome(unsafe {
-            stages_decode(
-                numbers(job),
+            mukerihe_decode(
+                job.as_ptr(),
+                job.len(),
                 points.as_ptr(),
                 points.len(),
                 heard,
@@ -255,7 +339,7 @@ impl Calls for Library {
     fn draw(&self, modulus: u32, words: &[u32], out: &mut [u32]) -> Result<usize, u32> {
         let mut used = usize::MAX;
         let number = unsafe {
-            stages_draw(
+            mukerihe_draw(
                 modulus,
                 words.as_ptr(),
                 words.len(),
@@ -264,16 +348,12 @@ impl Calls for Library {
                 &mut used,
             )
         };
-        assert!(
-            number == 0 || used == usize::MAX,
-            "a refused drawing tells words used"
-        );
-        outcome(number).map(|()| used)
+        told(number, used, usize::MAX)
     }
 
     fn page(&self, modulus: u32, t: u32, r: u32, table: &[u32], out: &mut [u8]) -> Outcome {
         outcome(unsafe {
-            stages_page(
+            mukerihe_page(
                 modulus,
                 t,
                 r,

@@ -12,7 +12,7 @@
 //!   cases     what is timed
 //!   report    the tables
 //!
-//! Link it with libbench_stages.a, libmukerihe.a and the plain Rust program of docs/src/plain.
+//! Link it with libmukerihe_bank.a, libmukerihe.a and the plain Rust program of docs/src/plain.
 
 mod agree;
 mod calls;

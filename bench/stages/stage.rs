@@ -13,6 +13,7 @@ pub enum Stage {
     Plan,
     Share,
     Product,
+    Answer,
     Write,
     Read,
     Arrival,
@@ -28,6 +29,7 @@ impl Stage {
             Stage::Plan => "planning",
             Stage::Share => "share of A",
             Stage::Product => "product, bytes in and out",
+            Stage::Answer => "host's whole part",
             Stage::Write => "message written",
             Stage::Read => "message read",
             Stage::Arrival => "arrival",
@@ -63,8 +65,8 @@ fn make(stage: Stage, calls: &impl Calls, work: &Work, room: &mut Room) -> Resul
     let Work { job, points, .. } = black_box(work);
     let [rows, inner, _] = work.block;
     match stage {
-        Stage::Plan => calls.plan(job, points).map(|needed| {
-            black_box(needed);
+        Stage::Plan => calls.plan(job, points).map(|values| {
+            black_box(values);
         }),
         Stage::Share => {
             let out = &mut room.shares[0];
@@ -82,11 +84,21 @@ fn make(stage: Stage, calls: &impl Calls, work: &Work, room: &mut Room) -> Resul
             let [a, b] = [0, 1].map(|i| &room.messages[i][16..]);
             calls.product_of_bytes(job.modulus, work.block, a, b, &mut room.answer_bytes)
         }
+        Stage::Answer => {
+            let [a, b] = &room.messages;
+            let written = calls.answer(a, b, &mut room.answer_message)?;
+            assert_eq!(black_box(written), room.answer_message.len());
+            Ok(())
+        }
         Stage::Write => {
             let fields = header(job, 1, job.hosts, rows, inner);
             calls.write(&fields, &room.shares[0], &mut room.messages[0])
         }
-        Stage::Read => calls.read(&room.messages[0], &mut room.blocks[0]),
+        Stage::Read => calls
+            .read(&room.messages[0], &mut room.blocks[0])
+            .map(|header| {
+                black_box(header);
+            }),
         Stage::Arrival => arrive(calls, work, 0, room),
         Stage::Repeated => arrive(calls, work, 1 << (job.hosts - 1), room),
         Stage::Decoding => calls.decode(job, points, room.heard, &room.store, &mut room.table),

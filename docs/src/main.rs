@@ -4,11 +4,11 @@
 //! checks itself, then writes its cases and what is due to them.
 //!
 //!   sheet     the sheet's calls: plans, shares, products, messages, arrivals, decodings, signed
-//!             reading, masks, pages, the lister's text
+//!             reading, masks, pages, a host's whole part, the lister's text
 //!   cases     what the makers of cases have in common
 //!   lister    the subcommand `lister`: inputs of the plan lister
-//!   calls     the subcommand `calls`: shares, products, messages, signed reading, masks, pages and
-//!             plans
+//!   calls     the subcommand `calls`: shares, products, messages, signed reading, masks, pages,
+//!             plans and a host's whole part
 //!   jobs      the subcommand `jobs`: arrivals and decodings, alone and in whole jobs
 //!   texts     the subcommand `texts`: whole jobs as plain texts
 //!   drawings  the subcommand `drawings`: masks to draw as plain texts

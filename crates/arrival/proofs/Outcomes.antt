@@ -1,6 +1,5 @@
 -- What an arrival returns and leaves, by its tests.
 --
---   message-numbered   every test of a message has a number
 --   arrived-by         what an arrival returns, by its number and by whether its host is heard
 --   told-message, told-answer, told-minute, told-again  a test of the message tells the number; or 22 or 12 does; or 30 does; or
 --                      the last test, 23
@@ -19,7 +18,6 @@ use mathlib.Core.List.{List, [], _∷_, _++_}
 use Prim.Native.Nat.{ℕ, _+_, _*_, _<_, _≤_}
 use native.Mathlib.Nat.{suc-ne-zero}
 use native.Mathlib.Omega.{arith}
-use lib.Dec.{T}
 use lib.ListN.{length}
 use borrow.Author.Tests.{ltb-false}
 use Rattle.algebra.proofs.Tests.{by-test, or-left, or-right, equal}
@@ -30,10 +28,11 @@ use Rattle.plan.specs.declared.Planned.the-variants.{Refused as Planned·Refuse
 use Rattle.plan.specs.Planning.{blockRows, blockColumns, inWindow, planTests, planned}
 use Rattle.plan.proofs.Then.{then-refused, then-own}
 use Rattle.message_header.specs.declared.Header.{Header}
-use Rattle.message_header.specs.Header.{headerTests, headerOf, elementCount, fieldTests}
+use Rattle.message_header.specs.Header.{headerOf, elementCount}
 use Rattle.message_header.proofs.Fields.{ranged}
 use Rattle.message_header.proofs.Outcomes.{refused-by}
 use Rattle.message.specs.Format.{elements, messageTests}
+use Rattle.message.proofs.Tests.{message-numbered}
 use Rattle.message.proofs.Fields.{readable}
 use Rattle.arrival_heard.specs.Heard.{isHeard, withHost}
 use Rattle.arrival.specs.declared.Arrived.{Arrived}
@@ -41,10 +40,6 @@ use Rattle.arrival.specs.declared.Arrived.the-variants.{Taken, AlreadyIn
 use Rattle.arrival.specs.Arriving.{answerLength, storeLength, withBlock, hostIndex, foreign, repeated, stateTests, answerTests, minuteTests, againTests}
 use Rattle.arrival.specs.Arriving.{arrivalTests, entered, storeEntered, arrived, storeAfter}
 use Rattle.arrival.specs.Contracts.{receivedTests, received, storeReceived}
-
-pub message-numbered : (message : List ℕ) → T (numbered (messageTests message))
-unfolding messageTests headerTests fieldTests numbered
-message-numbered message = tt
 
 abbrev pub arrived-by : ℕ → List ℕ → ℕ → Bool → Arrived
 arrived-by heard message n h = outcome n (cond h AlreadyIn (Taken (withHost heard (hostIndex (headerOf message))))) Refused
@@ -193,7 +188,7 @@ module _ (job : Job) (message : List ℕ) where
       record {
         count = count;
         whole = omega (arith, r .whole, count);
-        low = ranged h (r .head .fields) .host-low;
+        low = ranged h (r .head .fields) .host .low;
         high = ltb-false (job .hosts) (h .host) (host .0);
       }
 

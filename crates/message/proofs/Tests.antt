@@ -1,15 +1,17 @@
 -- The tests of writing and of a message, one after the other.
 --
+--   message-numbered           every test of a message has a number
 --   past-fields, past-header   the tests of the fields, or of the header, have passed: the last two decide
 --   element-named              the test of the elements, by the modulus's own prime
 use mathlib.Core.Path.{_≡_, refl, ap}
 use mathlib.Core.Bool.{not, _||_}
 use mathlib.Core.List.{List, [], _∷_}
 use Prim.Native.Nat.{ℕ, _+_, _*_}
+use lib.Dec.{T}
 use lib.ListN.{length}
 use Rattle.algebra.specs.Lists.{allBelow}
 use Rattle.refusal.specs.Chain.{first, differs}
-use Rattle.refusal.proofs.Chains.{first-append}
+use Rattle.refusal.proofs.Chains.{numbered, first-append}
 use Rattle.field.specs.declared.Modulus.{Modulus}
 use Rattle.field.specs.declared.Named.the-variants.{Is}
 use Rattle.field.specs.Modulus.{prime, named}
@@ -32,6 +34,10 @@ module _ (h : Header) (xs : List ℕ) (room : ℕ) where
   past-fields fields = first-append (fieldTests h) _ (fields-numbered h) fields
 
 module _ (message : List ℕ) where
+  pub message-numbered : T (numbered (messageTests message))
+  unfolding messageTests headerTests fieldTests numbered
+  message-numbered = tt
+
   pub past-header : first (headerTests message) ≡ 0
       → first (messageTests message)
       ≡ first

@@ -2,19 +2,20 @@
 --
 --   Ranged h          the fields are in their ranges
 --   ranged            they are where the tests of the fields pass
+--   fields-pass       these pass where the fields are in their ranges
 --   Headed message    what the tests of a message's header ask
 --   headed, heads     they pass where it holds, and only there
-use mathlib.Core.Path.{_≡_, _∙_}
-use mathlib.Core.Bool.{false}
+use mathlib.Core.Path.{_≡_, ap₂, _∙_}
+use mathlib.Core.Bool.{false, _||_}
 use mathlib.Core.List.{List}
 use Prim.Native.Nat.{ℕ, _^_, _<_, _≤_}
 use native.Mathlib.Omega.{arith}
 use lib.ListN.{length}
-use borrow.Author.Tests.{ltb-false}
+use borrow.Author.Tests.{ltb-false, le-ltb}
 use Rattle.algebra.proofs.Tests.{equal, alike}
 use Rattle.refusal.specs.Chain.{first}
-use Rattle.refusal.proofs.Chains.{first-clear, inside-low, inside-high}
-use Rattle.refusal.proofs.Limits.{within-both}
+use Rattle.refusal.proofs.Chains.{first-none, first-miss, first-clear, inside-low, inside-high}
+use Rattle.refusal.proofs.Limits.{Within, in-range, within-both}
 use Rattle.field.specs.Modulus.{moduli, modulus, noModulus}
 use Rattle.field.proofs.Moduli.{known-number}
 use Rattle.message_bytes.specs.Bytes.{numberAt}
@@ -27,10 +28,9 @@ pub record Ranged (h : Header) : Type 0 where
   pub prime : modulus (h .modulus) < 2 ^ 31
   pub kind : h .kind ≤ 3
   pub modulus : h .modulus ≤ 255
-  pub host-low : 1 ≤ h .host
-  pub host : h .host ≤ 64
-  pub rows : h .rows ≤ 16384
-  pub columns : h .columns ≤ 16384
+  pub host : Within 64 (h .host)
+  pub rows : Within 16384 (h .rows)
+  pub columns : Within 16384 (h .columns)
   pub count : elementCount h ≤ 4096
 
 pub ranged : (h : Header) → first (fieldTests h) ≡ 0 → Ranged h
@@ -46,13 +46,23 @@ ranged h e =
       known = number .0;
       kind = inside-high 1 3 _ (kind .0);
       modulus = omega (arith, inside-high 1 (length moduli) _ (number .0));
-      host-low = inside-low 1 64 _ (host .0);
-      host = inside-high 1 64 _ (host .0);
-      rows = sides .0 .high;
-      columns = sides .1 .high;
+      host = record { low = inside-low 1 64 _ (host .0); high = inside-high 1 64 _ (host .0) };
+      rows = sides .0;
+      columns = sides .1;
       count = ltb-false 4096 _ (block .0);
       prime = known-number (h .modulus) (number .0) .small;
     }
+
+pub fields-pass : (h : Header) → Within 3 (h .kind) → noModulus (h .modulus) ≡ false → Within 64 (h .host) → Within 16384 (h .rows)
+    → Within 16384 (h .columns) → elementCount h ≤ 4096 → first (fieldTests h) ≡ 0
+unfolding fieldTests
+fields-pass h kind known host rows columns count =
+    first-miss _ 16 _ (in-range kind)
+    ∙ first-miss _ 1 _ known
+    ∙ first-miss _ 12 _ (in-range host)
+    ∙ first-miss _ 2 _ (ap₂ _||_ (in-range rows) (in-range columns))
+    ∙ first-miss _ 6 _ (le-ltb 4096 (elementCount h) count)
+    ∙ first-none
 
 pub record Headed (message : List ℕ) : Type 0 where
   pub long : 16 ≤ length message

@@ -1,2 +1,3 @@
--- Laws of the host's product on bytes.
+-- Laws of the host's product on bytes, and of its answer.
 pub mod Outcomes
+pub mod Answers

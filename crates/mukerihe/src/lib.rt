@@ -1,11 +1,18 @@
-// The host's product for a partner's C program: big-endian bytes in, big-endian bytes out.
+// The host's part for a partner's C program: the product alone, big-endian bytes in and out; and the whole part, messages in and
+// out.
 ghost use mathlib.Core.Path.{_≡_};
+ghost use mathlib.Core.List.{_++_};
 ghost use Prim.Native.Nat.{_/_, _≤_, min};
-ghost use lib.ListN.{length};
-ghost use Rattle.refusal.specs.Chain.{first};
+ghost use lib.ListN.{length, take, drop};
+ghost use Rattle.refusal.specs.Chain.{first, unlessRefused};
 ghost use Rattle.refusal.specs.Limits.{mostElements};
+ghost use Rattle.message_header.specs.Header.{elementCount};
 ghost use Rattle.mukerihe.specs.Host.{hostTests, hostAfter};
-ghost use Rattle.mukerihe.specs.Contracts.{wholeElements};
+ghost use Rattle.mukerihe.specs.Answer.{pairHeader, pairTests, pairAnswer, hostAnswer, hostAnswerTests, hostAnswerAfter};
+ghost use Rattle.mukerihe.specs.Contracts.{wholeElements, Shared};
+use message::Parsed;
+use message_header::HEADER_BYTES;
+use message_header::Header;
 
 // Where no buffer holds more elements than this, arrays of only so many are made: to make the most takes longer than a small
 // product.
@@ -116,4 +123,131 @@ pub extern "C" fn mukerihe_product(
     let mut right = [0u32; refusal::MOST_ELEMENTS];
     let mut block = [0u32; refusal::MOST_ELEMENTS];
     product_in(n, a, b, &mut left, &mut right, &mut block, out)
+}
+
+// The kinds of messages: an A share, a B share, an answer.
+const A_SHARE: u32 = 1;
+
+const B_SHARE: u32 = 2;
+
+const ANSWER: u32 = 3;
+
+// The numbers of the library's own: the messages are not an A share and a B share, or differ in modulus, in host or in job number,
+// or A's columns are not B's rows.
+const KINDS: u32 = 1001;
+
+const MODULI: u32 = 1003;
+
+const HOSTS: u32 = 1004;
+
+const JOBS: u32 = 1005;
+
+const SIZES: u32 = 1006;
+
+// The header of the answer to two shares.
+fn pair_header(g: Header, h: Header) -> Header
+    ensures { λ r. ⌜ r ≡ pairHeader g h ⌝ }
+{
+    Header {
+        kind: ANSWER,
+        modulus: g.modulus,
+        host: g.host,
+        rows: g.rows,
+        columns: h.columns,
+        number: g.number,
+    }
+}
+
+// The tests of two messages together, where the output has room for that many bytes.
+fn pair_refusal(g: Header, h: Header, room: usize) -> u32
+    ensures { λ r. ⌜ r ≡ first (pairTests g h room) ⌝ }
+{
+    if (g.kind != A_SHARE) | (h.kind != B_SHARE) {
+        return KINDS;
+    }
+    if g.modulus != h.modulus {
+        return MODULI;
+    }
+    if g.host != h.host {
+        return HOSTS;
+    }
+    if g.number != h.number {
+        return JOBS;
+    }
+    if g.columns != h.rows {
+        return SIZES;
+    }
+    if refusal::too_large(g.rows, h.columns) {
+        return refusal::BLOCK;
+    }
+    if room < HEADER_BYTES + 4 * (g.rows * h.columns) as usize {
+        return refusal::LENGTH;
+    }
+    0
+}
+
+// The answer to two messages that were read: their headers, and their elements at the front of two lists.
+fn answer_pair(
+    g: Header,
+    h: Header,
+    left: &[u32],
+    right: &[u32],
+    out: &mut [u8],
+    written: &mut usize,
+) -> u32
+    requires { ⌜ Shared g (now left) × Shared h (now right) ⌝ }
+    ensures { λ r. ⌜ r ≡ first (pairTests g h (length (now (out .entry)))) ⌝ }
+    ensures { λ _. let was = now (out .entry) in
+        let made = pairAnswer g h (take (elementCount g) (now (left .entry))) (take (elementCount h) (now (right .entry))) in
+        ⌜ now (out .exit) ≡ unlessRefused (pairTests g h (length was)) (made ++ drop (length made) was) was ⌝ }
+    ensures { λ _. let room = length (now (out .entry)) in
+        let made = pairAnswer g h (take (elementCount g) (now (left .entry))) (take (elementCount h) (now (right .entry))) in
+        ⌜ now (written .exit) ≡ unlessRefused (pairTests g h room) (length made) (now (written .entry)) ⌝ }
+{
+    let refused = pair_refusal(g, h, out.len());
+    if refused != 0 {
+        return refused;
+    }
+    let left_count = (g.rows * g.columns) as usize;
+    let right_count = (h.rows * h.columns) as usize;
+    let count = (g.rows * h.columns) as usize;
+    let mut block = [0u32; refusal::MOST_ELEMENTS];
+    product::product(
+        g.modulus,
+        g.rows,
+        g.columns,
+        h.columns,
+        &left[..left_count],
+        &right[..right_count],
+        &mut block[..count],
+    );
+    let end = HEADER_BYTES + 4 * count;
+    message::write_message(pair_header(g, h), &block[..count], &mut out[..end]);
+    *written = end;
+    0
+}
+
+// A host's whole part: the message of its A share and that of its B share in, the message of its answer out. The answer then stands
+// at the front of the output, and written is how many bytes it has; or the refusal number is returned, and nothing changes.
+#[no_mangle]
+pub extern "C" fn mukerihe_answer(a: &[u8], b: &[u8], out: &mut [u8], written: &mut usize) -> u32
+    ensures number { λ r. ⌜ r ≡ first (hostAnswerTests (now (a .entry)) (now (b .entry)) (length (now (out .entry)))) ⌝ }
+    ensures bytes { λ _. ⌜ now (out .exit) ≡ hostAnswerAfter (now (a .entry)) (now (b .entry)) (now (out .entry)) ⌝ }
+    ensures written { λ _. let xs = now (a .entry) in let ys = now (b .entry) in
+        ⌜ now (written .exit)
+        ≡ unlessRefused (hostAnswerTests xs ys (length (now (out .entry)))) (length (hostAnswer xs ys)) (now (written .entry)) ⌝ }
+{
+    let mut left = [0u32; refusal::MOST_ELEMENTS];
+    let first = message::read_message(a, &mut left);
+    match first {
+        Parsed::Refused(number) => number,
+        Parsed::Fields(g) => {
+            let mut right = [0u32; refusal::MOST_ELEMENTS];
+            let second = message::read_message(b, &mut right);
+            match second {
+                Parsed::Refused(number) => number,
+                Parsed::Fields(h) => answer_pair(g, h, &left, &right, out, written),
+            }
+        }
+    }
 }

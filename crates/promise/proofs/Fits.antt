@@ -32,8 +32,8 @@ use Rattle.message_header.specs.Header.{headerTests, headerOf, elementCount, fi
 use Rattle.message_header.proofs.Fields.{ranged}
 use Rattle.message.specs.Format.{elements, elementTest, messageTests}
 use Rattle.message.proofs.Fields.{readable}
+use Rattle.message.proofs.Tests.{message-numbered}
 use Rattle.arrival_heard.specs.Heard.{someAbove}
-use Rattle.arrival.proofs.Outcomes.{message-numbered}
 use Rattle.arrival.specs.Arriving.{answerLength, storeLength, hostIndex, foreign, stateTests, answerTests, minuteTests, againTests, arrivalTests}
 use Rattle.promise.specs.Demand3.{headerFor}
 use Rattle.promise.specs.Retried.{index}
@@ -141,7 +141,7 @@ fit-message job message e =
     let read = readable message (parts .0) in
     let ours = first-clear _ 21 _ (parts .1) in
     let host = ltb-false (job .hosts) (h .host) (first-clear _ 11 _ (ours .1) .0) in
-    let low = ranged h (read .head .fields) .host-low in
+    let low = ranged h (read .head .fields) .host .low in
     let kind = differs (h .kind) 3 in
     let number = differs (h .number) (job .number) in
     let modulus = differs (h .modulus) (job .modulus) in

@@ -1,7 +1,6 @@
 -- Shares, products and messages of an accepted job are made: no call that makes them is refused.
 --
 --   side-rows, side-columns, side-block  the sizes of a side's blocks
---   fields-pass        a header with numbers in range
 --   share-length, share-below    a share fills its block, with elements below q
 --   product-length, product-below  so does an answer
 --   share-done         sharing is carried out
@@ -22,11 +21,11 @@ use Rattle.algebra.specs.Lists.{AllBelow, allBelow}
 use Rattle.algebra.proofs.Tests.{alike}
 use Rattle.algebra.proofs.Lists.{below-test}
 use Rattle.algebra.proofs.Grids.{length-grid, below-grid}
-use Rattle.refusal.specs.Chain.{Test, first, outside}
+use Rattle.refusal.specs.Chain.{Test, first}
 use Rattle.field.specs.Modulus.{noModulus}
 use Rattle.refusal.specs.Limits.{anyOutside, sizesOutside, overBlock}
 use Rattle.refusal.proofs.Chains.{first-none, first-miss, outcome-done, unless-done, inside}
-use Rattle.refusal.proofs.Limits.{Within}
+use Rattle.refusal.proofs.Limits.{Within, in-range}
 use Rattle.plan.specs.Planning.{parameters, prime, blockRows, blockInner, blockColumns}
 use Rattle.plan.proofs.Facts.{Fits, facts}
 use Rattle.plan.proofs.Sizes.{Sizes, sizes}
@@ -37,12 +36,12 @@ use Rattle.share_side.specs.declared.Matrix.the-variants.{A, B}
 use Rattle.share_side.specs.Sides.{side, blockLength, matrixLength, maskLength, matrixTests}
 use Rattle.share.specs.Sharing.{shareOf, hostShare, shareTests, shareAfter}
 use Rattle.product.specs.Product.{productOf, productTests, productAfter}
-use Rattle.message_header.specs.declared.Header.{Header}
 use Rattle.message_bytes.specs.Bytes.{bytesOf, elementsOf}
 use Rattle.message_bytes.proofs.Bytes.{length-bytesOf, elements-of-bytes}
 use Rattle.mukerihe.specs.Host.{hostTests, hostProduct, hostAfter}
+use Rattle.message_header.proofs.Fields.{fields-pass}
 use Rattle.message_header.proofs.Headers.{length-header}
-use Rattle.message_header.specs.Header.{header, elementCount, fieldTests}
+use Rattle.message_header.specs.Header.{header, elementCount}
 use Rattle.message.specs.Format.{messageOf, payload, elementTest, writeTests, written}
 use Rattle.message.proofs.Fields.{writes}
 use Rattle.message.proofs.Outcomes.{written-done}
@@ -51,21 +50,6 @@ use Rattle.promise.specs.Demand3.{Task, Accepted, Masks, Made, matrix, k
 -- a size of a block is one of a matrix
 in-size : {n : ℕ} → Within 4096 n → Within 16384 n
 in-size w = record { low = w .low; high = omega (arith, w .high) }
-
--- a number in its range
-in-range : {most n : ℕ} → Within most n → outside 1 most n ≡ false
-in-range {most} {n} w = inside 1 most n (w .low) (w .high)
-
-pub fields-pass : (h : Header) → Within 3 (h .kind) → noModulus (h .modulus) ≡ false → Within 64 (h .host) → Within 16384 (h .rows)
-    → Within 16384 (h .columns) → elementCount h ≤ 4096 → first (fieldTests h) ≡ 0
-unfolding fieldTests
-fields-pass h kind known host rows columns count =
-    first-miss _ 16 _ (in-range kind)
-    ∙ first-miss _ 1 _ known
-    ∙ first-miss _ 12 _ (in-range host)
-    ∙ first-miss _ 2 _ (ap₂ _||_ (in-range rows) (in-range columns))
-    ∙ first-miss _ 6 _ (le-ltb 4096 (elementCount h) count)
-    ∙ first-none
 
 module _ (x : Task) (ok : Accepted x) (i : ℕ) (low : i < x .job .hosts) where
   fits : Fits (x .job)

@@ -30,9 +30,9 @@ use Rattle.message_header.specs.Header.{headerOf}
 use Rattle.message.specs.Format.{messageOf, elements, messageTests}
 use Rattle.message.specs.RoundTrips.{ReadsBack}
 use Rattle.message.proofs.RoundTrips.{reads-back}
+use Rattle.message.proofs.Tests.{message-numbered}
 use Rattle.arrival_heard.specs.Heard.{isHeard, someAbove}
 use Rattle.arrival_heard.proofs.Bits.{none-heard, ones-size}
-use Rattle.arrival.proofs.Outcomes.{message-numbered}
 use Rattle.arrival.specs.Arriving.{answerLength, storeLength, blockAt, hostIndex, foreign, answerTests}
 use Rattle.product.specs.Product.{productOf}
 use Rattle.decode.specs.Decoding.{tableLength, heardBelow, tableTests, decodeTests, tableAfter}

@@ -1,6 +1,7 @@
 -- What the tests of limits tell.
 --
 --   Within most n          n is in 1..most
+--   in-range               the test of such a number passes
 --   within-both, within-all  two or three numbers are
 --   blocks-fit             no block has over 4096 elements
 use mathlib.Core.Path.{_≡_}
@@ -11,11 +12,14 @@ use borrow.Author.Tests.{ltb-false}
 use Rattle.algebra.proofs.Tests.{or-left, or-right, or-all}
 use Rattle.refusal.specs.Chain.{outside}
 use Rattle.refusal.specs.Limits.{anyOutside, overBlock}
-use Rattle.refusal.proofs.Chains.{inside-low, inside-high}
+use Rattle.refusal.proofs.Chains.{inside-low, inside-high, inside}
 
 pub record Within (most n : ℕ) : Type 0 where
   pub low : 1 ≤ n
   pub high : n ≤ most
+
+pub in-range : {most n : ℕ} → Within most n → outside 1 most n ≡ false
+in-range {most} {n} w = inside 1 most n (w .low) (w .high)
 
 within : (most n : ℕ) → outside 1 most n ≡ false → Within most n
 within most n e = record { low = inside-low 1 most n e; high = inside-high 1 most n e }

@@ -1,6 +1,6 @@
-// Runs plans, shares, products, messages, signed reading, drawings of masks and pages on many inputs: cases come from standard
-// input, one after another, and what they return goes to standard output. Both are those of the separate Rust program, whose
-// docs/src/calls/format.rs tells their format.
+// Runs plans, shares, products, messages, signed reading, drawings of masks, pages and a host's whole part on many inputs: cases
+// come from standard input, one after another, and what they return goes to standard output. Both are those of the separate Rust
+// program, whose docs/src/calls/format.rs tells their format.
 ghost use mathlib.Core.Path.{_≡_};
 ghost use Prim.Native.Nat.{_≤_};
 ghost use lib.ListN.{length};
@@ -26,10 +26,10 @@ struct Ends {
 // What stands in an output of bytes before a call.
 const FILLING_BYTE: u8 = 0xA5;
 
-// The largest case: the words of its lists, the bytes of a message, the elements of an output, the bytes of a page.
+// The largest case: the words of its lists, the bytes of a message or of two, the elements of an output, the bytes of a page.
 const MOST_WORDS: usize = 32896;
 
-const MOST_BYTES: usize = 20000;
+const MOST_BYTES: usize = 40000;
 
 const MOST_ELEMENTS: usize = 8192;
 
@@ -45,6 +45,9 @@ const MOST_CASES: u32 = 1000000;
 const WORD: u64 = 0x1_0000_0000;
 
 const MOST_SIGNED: u64 = 0x7FFF_FFFF_FFFF_FFFF;
+
+// The largest number of a word: what is told of a larger one.
+const MOST_TOLD: usize = 0xFFFF_FFFF;
 
 // The ends of lists of these lengths.
 fn ends_of(points: u32, xs: u32, ys: u32) -> Ends
@@ -66,9 +69,9 @@ fn list_words() -> [u32; MOST_WORDS]
     [0; MOST_WORDS]
 }
 
-// An output of bytes for a message to write, or room for one to read.
+// An output of bytes for a message to write, or room for one or two to read.
 fn filled_message() -> [u8; MOST_BYTES]
-    ensures { λ r. ⌜ 20000 ≡ length r ⌝ }
+    ensures { λ r. ⌜ 40000 ≡ length r ⌝ }
 {
     [FILLING_BYTE; MOST_BYTES]
 }
@@ -304,6 +307,30 @@ fn print_page(head: [u32; HEAD_WORDS], table: &[u32]) -> bool {
     true
 }
 
+// Answers a case of a host's whole part: its number, how many bytes were written, which is the filling before the call, and the
+// output. Both messages are lent as one; false where the first is longer than both, or the output is too long.
+fn print_answer(head: [u32; HEAD_WORDS], messages: &[u8]) -> bool {
+    let first = head[1] as usize;
+    let room = head[19] as usize;
+    if messages.len() < first {
+        return false;
+    }
+    if MOST_BYTES < room {
+        return false;
+    }
+    let mut out = filled_message();
+    let mut written = test_io::FILLING as usize;
+    let number = mukerihe::mukerihe_answer(
+        &messages[..first],
+        &messages[first..],
+        &mut out[..room],
+        &mut written,
+    );
+    test_io::put_words(&[number, least(written, MOST_TOLD) as u32]);
+    put_bytes(&out[..room]);
+    true
+}
+
 // Reads the message of a case and runs it; false where it is over the limits, or the input ends in it.
 fn run_message(head: [u32; HEAD_WORDS], points: &[u32], xs: &[u32], ys: &[u32]) -> bool {
     let count = head[18] as usize;
@@ -316,6 +343,7 @@ fn run_message(head: [u32; HEAD_WORDS], points: &[u32], xs: &[u32], ys: &[u32]) 
     match call {
         4 => print_write(head, xs),
         9 => print_page(head, xs),
+        11 => print_answer(head, &message[..n]),
         _ => print_call(head, points, xs, ys, &message[..n]),
     }
 }

@@ -3,7 +3,8 @@
 //! A case is 20 words, three lists of words, and a list of bytes:
 //!
 //!   0       the call: 1 share of A, 2 share of B, 3 product, 4 write a message, 5 read a message,
-//!           6 signed reading, 7 its way back, 8 draw masks, 9 write a page, 10 plan
+//!           6 signed reading, 7 its way back, 8 draw masks, 9 write a page, 10 plan, 11 a host's
+//!           whole part
 //!   1..=14  the call's numbers, unused ones 0
 //!             share           modulus number, t, s, r, m, p, n, X_A, X_B, N, job number, opening,
 //!                             closing, host
@@ -14,24 +15,28 @@
 //!             draw            modulus number
 //!             page            modulus number, t, r
 //!             plan            the thirteen numbers of a share's job
+//!             whole part      length of A's message
 //!   15      length of list 1: the points of a share or a plan
 //!   16      length of list 2: a share's matrix, a product's a, the elements to write, the words to draw
 //!           masks from, a page's table
 //!   17      length of list 3: a share's masks, a product's b
-//!   18      length of the list of bytes: the message to read
-//!   19      length of the output: in bytes for a message or a page to write, else in elements
+//!   18      length of the list of bytes: the message to read; of a whole part A's message, then B's
+//!   19      length of the output: in bytes for a message or a page to write and for a whole part, else in
+//!           elements
 //!
 //! A signed value has 64 bits in two's complement, and goes as two words, the high one first.
 //!
 //! An outcome is the refusal number, 0 for a call that was done; then, of a message that was read,
 //! kind, modulus number, host, rows, columns and job number, of an element that was read its signed
 //! value in two words, of a value taken back its element, of masks that were drawn the number of words
-//! used, and of a plan that was accepted the layout's number, K, and the rows, inner side and columns of
-//! the blocks; then the output after the call. Before it every byte of the output is A5 hex. Of the
-//! output the part up to the last element that is not A5A5A5A5 hex is told (for a message or a page to
-//! write: the last byte that is not A5): a word with its length, then the elements as words, or the bytes.
+//! used, of a plan that was accepted the layout's number, K, and the rows, inner side and columns of the
+//! blocks, and of a whole part, done or refused, how many bytes it says were written, which is A5A5A5A5
+//! hex before the call; then the output after the call. Before it every byte of the output is A5 hex. Of
+//! the output the part up to the last element that is not A5A5A5A5 hex is told (where its length is in
+//! bytes: the last byte that is not A5): a word with its length, then the elements as words, or the bytes.
 //! Signed reading, its way back and a plan have an output of length 0.
 
+use crate::sheet::answer::{answer, Answering};
 use crate::sheet::masks::{draw, Drawing};
 use crate::sheet::message::{read, write, Fields, Reading, Writing};
 use crate::sheet::page::{page, Paging};
@@ -55,6 +60,7 @@ pub enum Call {
     Draw(Drawing),
     Page(Paging),
     Plan(Planning),
+    Answer(Answering),
 }
 
 /// A case before it is made into bytes.
@@ -62,7 +68,7 @@ struct Case<'a> {
     call: u32,
     numbers: Vec<u32>,
     lists: [&'a [u32]; 3],
-    message: &'a [u8],
+    messages: [&'a [u8]; 2],
     room: usize,
 }
 
@@ -81,6 +87,7 @@ pub fn case(call: &Call) -> Vec<u8> {
         Call::Draw(call) => draw_case(call),
         Call::Page(call) => page_case(call),
         Call::Plan(call) => plan_case(call),
+        Call::Answer(call) => answer_case(call),
     })
 }
 
@@ -90,7 +97,7 @@ fn share_case(call: &Sharing) -> Case<'_> {
         call: if call.side == Side::A { 1 } else { 2 },
         numbers: [call.job.numbers(call.job_number), vec![call.host]].concat(),
         lists: [&call.points, &call.matrix, &call.masks],
-        message: &[],
+        messages: [&[]; 2],
         room: call.room,
     }
 }
@@ -101,7 +108,7 @@ fn product_case(call: &Multiplying) -> Case<'_> {
         call: 3,
         numbers: vec![call.modulus, call.rows, call.inner, call.columns],
         lists: [&[], &call.a, &call.b],
-        message: &[],
+        messages: [&[]; 2],
         room: call.room,
     }
 }
@@ -112,7 +119,7 @@ fn write_case(call: &Writing) -> Case<'_> {
         call: 4,
         numbers: field_words(&call.fields).to_vec(),
         lists: [&[], &call.elements, &[]],
-        message: &[],
+        messages: [&[]; 2],
         room: call.room,
     }
 }
@@ -123,7 +130,7 @@ fn read_case(call: &Reading) -> Case<'_> {
         call: 5,
         numbers: Vec::new(),
         lists: [&[]; 3],
-        message: &call.message,
+        messages: [&call.message, &[]],
         room: call.room,
     }
 }
@@ -134,7 +141,7 @@ fn draw_case(call: &Drawing) -> Case<'_> {
         call: 8,
         numbers: vec![call.modulus],
         lists: [&[], &call.words, &[]],
-        message: &[],
+        messages: [&[]; 2],
         room: call.room,
     }
 }
@@ -145,7 +152,7 @@ fn page_case(call: &Paging) -> Case<'_> {
         call: 9,
         numbers: vec![call.modulus, call.t, call.r],
         lists: [&[], &call.table, &[]],
-        message: &[],
+        messages: [&[]; 2],
         room: call.room,
     }
 }
@@ -158,13 +165,22 @@ fn plan_case(call: &Planning) -> Case<'_> {
     }
 }
 
+/// The case of a host's whole part.
+fn answer_case(call: &Answering) -> Case<'_> {
+    Case {
+        messages: [&call.a, &call.b],
+        room: call.room,
+        ..numbers_case(11, vec![call.a.len() as u32])
+    }
+}
+
 /// The case of a call that has numbers alone.
 fn numbers_case<'a>(call: u32, numbers: Vec<u32>) -> Case<'a> {
     Case {
         call,
         numbers,
         lists: [&[]; 3],
-        message: &[],
+        messages: [&[]; 2],
         room: 0,
     }
 }
@@ -190,20 +206,21 @@ fn field_words(fields: &Fields) -> [u32; 6] {
 fn bytes_of(case: &Case) -> Vec<u8> {
     let lengths = case.lists.map(<[u32]>::len);
     let most_room = match case.call {
-        4 => 20_000,
+        4 | 11 => 40_000,
         9 => 400_000,
         _ => 8192,
     };
     assert!(lengths[0] <= 128 && lengths.iter().sum::<usize>() <= 32_896);
-    assert!(case.message.len() <= 20_000 && case.room <= most_room);
+    let messages = case.messages.concat();
+    assert!(messages.len() <= 40_000 && case.room <= most_room);
     let mut head = vec![case.call];
     head.extend(&case.numbers);
     head.resize(15, 0);
     head.extend(lengths.map(|length| length as u32));
-    head.extend([case.message.len() as u32, case.room as u32]);
+    head.extend([messages.len() as u32, case.room as u32]);
     let mut bytes = words(&head);
     bytes.extend(case.lists.iter().flat_map(|list| words(list)));
-    bytes.extend(case.message);
+    bytes.extend(messages);
     bytes
 }
 
@@ -224,6 +241,7 @@ pub fn number(call: &Call) -> u32 {
         Call::Draw(call) => draw(call).err(),
         Call::Page(call) => page(call).err(),
         Call::Plan(call) => plan(call).err(),
+        Call::Answer(call) => answer(call).err(),
     };
     refused.unwrap_or(0)
 }
@@ -241,6 +259,7 @@ pub fn outcome(call: &Call) -> Vec<u8> {
         Call::Draw(call) => drawing_told(call),
         Call::Page(call) => bytes_told(&page(call).unwrap_or_default(), call.room),
         Call::Plan(call) => value_told(plan(call)),
+        Call::Answer(call) => answer_told(call),
     });
     bytes
 }
@@ -267,6 +286,17 @@ fn drawing_told(call: &Drawing) -> Vec<u8> {
         }
         Err(_) => elements_told(&[], call.room),
     }
+}
+
+/// How many bytes a whole part says were written, the filling where it is refused; then the output.
+fn answer_told(call: &Answering) -> Vec<u8> {
+    let (written, message) = match answer(call) {
+        Ok(message) => (message.len() as u32, message),
+        Err(_) => (u32::from_be_bytes([FILLING; 4]), Vec::new()),
+    };
+    let mut bytes = words(&[written]);
+    bytes.extend(bytes_told(&message, call.room));
+    bytes
 }
 
 /// The words of a value, of a refused call none; then an output of length 0.

@@ -1,5 +1,5 @@
-//! The subcommand `calls`: gathers the cases of shares, products, messages, signed reading, masks, pages
-//! and plans, checks them, writes them with their outcomes.
+//! The subcommand `calls`: gathers the cases of shares, products, messages, signed reading, masks, pages,
+//! plans and a host's whole part, checks them, writes them with their outcomes.
 //!
 //!   shares        cases of shares that are fit
 //!   share_faults  cases of shares that are refused
@@ -11,8 +11,13 @@
 //!   masks         cases of masks to draw
 //!   pages         cases of pages to write
 //!   plans         cases of plans
+//!   answers       cases of a host's whole part with messages that belong together
+//!   answer_faults
+//!                 cases of it with messages that are damaged or do not belong together
 //!   format        the file format of cases and outcomes
 
+mod answer_faults;
+mod answers;
 pub mod damage;
 pub mod depths;
 pub mod format;
@@ -30,10 +35,11 @@ use std::collections::HashSet;
 use crate::cases::counts::{hold, Counts, Floors};
 use crate::cases::faults::Expected;
 use crate::cases::save;
+use crate::sheet::answer::{answer, Answering};
 use crate::sheet::listing::{refused, reply, text};
 use crate::sheet::masks::{draw, Drawing, Drawn};
 use crate::sheet::masks_check;
-use crate::sheet::message::{read, write, Reading, Writing};
+use crate::sheet::message::{read, write, Reading, Writing, HEADER};
 use crate::sheet::page::{page, Paging};
 use crate::sheet::page_check;
 use crate::sheet::plan::{plan, Planning};
@@ -71,6 +77,10 @@ const FLOORS: &Floors = &[
         (0, 380), (1, 298), (2, 168), (3, 151), (4, 101), (5, 128), (6, 127), (7, 100), (8, 130),
         (9, 37), (10, 40), (11, 17), (29, 359),
     ]),
+    ("whole part", &[
+        (0, 209), (1, 42), (2, 41), (6, 57), (12, 45), (13, 19), (14, 85), (16, 46), (17, 49),
+        (18, 58), (19, 52), (20, 60), (1001, 34), (1003, 21), (1004, 24), (1005, 41), (1006, 16),
+    ]),
 ];
 
 /// Checks the program, then writes the cases to one file and their outcomes to the other.
@@ -82,6 +92,7 @@ pub fn write_files(stdin_file: &str, stdout_file: &str) {
     window_check::run();
     hand_values();
     signed_values();
+    answer_value();
     let calls = gathered();
     calls.iter().for_each(reads_back);
     let cases: Vec<Vec<u8>> = calls.iter().map(case).collect();
@@ -121,8 +132,19 @@ fn signed_values() {
     assert_eq!(back(5, 0), Err(1));
 }
 
-/// All calls, each once. Shares, masks, pages and plans have generators of their own: no other call
-/// changes with them.
+/// The whole part of host 2 of 01, "Checked by hand", byte for byte.
+fn answer_value() {
+    let message = |kind, element| {
+        let header = [0x4D, 0x44, 0x4F, 0, 1, kind, 1, 2, 0, 1, 0, 1, 0, 0, 0, 7];
+        [&header[..], &[0, 0, 0, element]].concat()
+    };
+    let (a, b) = (message(1, 6), message(2, 9));
+    let room = 20;
+    assert_eq!(answer(&Answering { a, b, room }), Ok(message(3, 2)));
+}
+
+/// All calls, each once. Shares, masks, pages, plans and whole parts have generators of their own: no
+/// other call changes with them.
 fn gathered() -> Vec<Call> {
     let random = &mut Random::new(2027);
     let mut calls = expected(shares::expected(random), Call::Share);
@@ -145,6 +167,11 @@ fn gathered() -> Vec<Call> {
     let random = &mut Random::new(2035);
     calls.extend(expected(plans::expected(random), Call::Plan));
     calls.extend(plans::computed(random).into_iter().map(Call::Plan));
+    let random = &mut Random::new(2036);
+    calls.extend(expected(answers::expected(random), Call::Answer));
+    calls.extend(expected(answer_faults::expected(random), Call::Answer));
+    let damaged = answer_faults::computed(random).into_iter();
+    calls.extend(damaged.map(Call::Answer));
     let mut seen = HashSet::new();
     calls.retain(|call| seen.insert(case(call)));
     calls
@@ -163,8 +190,8 @@ fn expected<T>(list: Expected<T>, as_call: fn(T) -> Call) -> Vec<Call> {
 
 /// Panics unless a message that is written reads back to its fields and elements, one that is read
 /// is written again byte for byte, signed reading and its way back undo each other, the words used give
-/// the masks that all words give, a page that is written reads back to its table, and a plan is the
-/// lister's.
+/// the masks that all words give, a page that is written reads back to its table, a plan is the lister's,
+/// and an answer's bytes are those of its messages where they must be.
 fn reads_back(call: &Call) {
     match call {
         Call::Write(call) => {
@@ -190,6 +217,7 @@ fn reads_back(call: &Call) {
         Call::Draw(call) => drawn_again(call),
         Call::Page(call) => page_back(call),
         Call::Plan(call) => listed(call),
+        Call::Answer(call) => answered(call),
         Call::Share(_) | Call::Product(_) => {}
     }
 }
@@ -252,6 +280,19 @@ fn listed(call: &Planning) {
     }
 }
 
+/// Panics unless an answer reads back, and its header has A's bytes but for the kind and the columns,
+/// which are B's.
+fn answered(call: &Answering) {
+    if let Ok(message) = answer(call) {
+        let mut header = call.a[..HEADER].to_vec();
+        header[5] = 3;
+        header[10..12].copy_from_slice(&call.b[10..12]);
+        assert!(message.starts_with(&header) && message.len() <= call.room);
+        let room = 4096;
+        assert!(read(&Reading { message, room }).is_ok());
+    }
+}
+
 /// How many cases there are of each call and refusal number.
 fn counted(calls: &[Call]) -> Counts {
     let mut counts = Counts::new();
@@ -274,5 +315,6 @@ fn name(call: &Call) -> &'static str {
         Call::Draw(_) => "masks",
         Call::Page(_) => "page",
         Call::Plan(_) => "plan",
+        Call::Answer(_) => "whole part",
     }
 }

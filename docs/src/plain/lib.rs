@@ -7,6 +7,7 @@
 //!   share     the shares of A and of B
 //!   product   a host's product, on elements and on bytes
 //!   message   messages, written and read
+//!   answer    a host's whole part, messages in and out
 //!   arrival   an answer taken into the store
 //!   decode    the table from the answers
 //!   masks     masks drawn from random words
@@ -15,6 +16,7 @@
 //!
 //! A refused call returns the sheet's number as an error, and leaves every buffer as it was.
 
+pub mod answer;
 pub mod arrival;
 pub mod decode;
 mod field;

@@ -39,7 +39,7 @@ impl Header {
     }
 
     /// The 16 bytes of a header.
-    fn bytes(&self) -> [u8; HEADER] {
+    pub fn bytes(&self) -> [u8; HEADER] {
         let mut bytes = *b"MDO\x00\x01...........";
         bytes[5] = self.kind as u8;
         bytes[6] = self.modulus as u8;

@@ -80,16 +80,18 @@ fn multiply_bytes<const Q: u32>(
     if !all_below::<Q>(&left) || !all_below::<Q>(&right) {
         return Err(14);
     }
+    write_product::<Q>(sizes, &left, &right, out);
+    Ok(())
+}
+
+/// Writes the product modulo Q, of elements below Q, as bytes.
+pub fn write_product<const Q: u32>(sizes: [u32; 3], a: &[u32], b: &[u32], out: &mut [u8]) {
     let [_, inner, columns] = sizes.map(|size| size as usize);
     let mut sums = vec![0; columns];
-    for (row, out) in left
-        .chunks_exact(inner)
-        .zip(out.chunks_exact_mut(4 * columns))
-    {
-        add_products::<Q>(row, &right, &mut sums);
+    for (row, out) in a.chunks_exact(inner).zip(out.chunks_exact_mut(4 * columns)) {
+        add_products::<Q>(row, b, &mut sums);
         write::<Q>(&sums, out);
     }
-    Ok(())
 }
 
 /// The sums of one row of the product: to each, an element of the row times the rows of b is added.

@@ -8,6 +8,7 @@
 //!   share        the shares of A and of B
 //!   product      a host's product
 //!   message      messages, written and read
+//!   answer       a host's whole part: both its messages in, its answer's out
 //!   signed       signed reading and its way back
 //!   masks        masks drawn from random words
 //!   masks_check  the drawing against values by hand and against a count of all lists of few words
@@ -22,6 +23,7 @@
 //!   window_check
 //!                windows against lists of their minutes
 
+pub mod answer;
 pub mod arrival;
 pub mod decode;
 mod interpolate;

@@ -51,7 +51,7 @@ read r = fields-told _ _ (sym (r .before .before .examine .ensures) ∙ r .parse
 low : (r : tie.After-parsed2) → 1 ≤ r .parsed2 .given .0 .0 .host
 low r =
     let host = ap (λ (h : Header). h .host) (read r .1) in
-    omega (arith, host, ranged _ (readable _ (read r .0) .head .fields) .host-low)
+    omega (arith, host, ranged _ (readable _ (read r .0) .head .fields) .host .low)
 
 index-is : (r : tie.After-parsed2) → r .parsed2 .given .0 .0 .host - 1 ≡ hostIndex (headerOf (begin r .args .message .now))
 unfolding hostIndex

@@ -6,7 +6,7 @@ use Rattle.test_calls.proofs.filled_message.Statement.{statement}
 use Rattle.test_calls.proofs.filled_message.Tie as tie
 
 returns : tie.Need-returns
-returns c = sym (length-replicate {A = ℕ} 20000 0xA5)
+returns c = sym (length-replicate {A = ℕ} 40000 0xA5)
 
 pub filled-message-spec : {M : Type 1} → statement M
 filled-message-spec = tie.close (tie.spec returns)

@@ -1,2 +1,0 @@
--- The stages of a job as functions for C.
-pub mod Stages

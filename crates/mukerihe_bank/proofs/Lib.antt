@@ -1,0 +1,3 @@
+-- Laws of the bank's calls for C.
+pub mod Examples
+pub mod Outcomes

@@ -1,0 +1,2 @@
+-- The bank's calls for C.
+pub mod Bank
