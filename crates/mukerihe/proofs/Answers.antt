@@ -1,8 +1,10 @@
 -- A host's answer to two messages.
 --
 --   was-read, was-refused   what reading a message tells of its tests
+--   read-writable   a message that passes its tests could be written
 --   front-read      the elements of a message that was read stand at the front of the list
 --   read-shared     and they pass the tests of its fields
+--   shared-writable  so they could be written
 --   Paired          what the tests of two headers ask
 --   paired          they pass only where it holds
 --   multiplied      the product of two such shares is carried out
@@ -38,7 +40,7 @@ use Rattle.message_header.proofs.Headers.{length-header}
 use Rattle.message.specs.declared.Parsed.the-variants.{Fields, Refused}
 use Rattle.message.specs.Format.{messageOf, elements, elementTest, writeTests, messageTests, written, examined, readAs, readInto}
 use Rattle.message.proofs.Tests.{message-numbered}
-use Rattle.message.proofs.Fields.{readable, writes}
+use Rattle.message.proofs.Fields.{Writable, writes, readable}
 use Rattle.message.proofs.Outcomes.{fields-told, refused-told, written-done, read-long, read-done}
 use Rattle.product.specs.Product.{productOf, productTests, productAfter}
 use Rattle.mukerihe.specs.Answer.{pairHeader, pairTests, pairAnswer, hostAnswer, hostAnswerTests, hostAnswerAfter}
@@ -53,6 +55,11 @@ module _ (message : List ℕ) (room : ℕ) (long : 4096 ≤ room) where
   pub was-refused : {n : ℕ} → readAs message room ≡ Refused n → (first (messageTests message) ≡ n) × (n ≡ 0 → ⊥)
   unfolding examined
   was-refused e = refused-told _ _ (sym (read-long message room long) ∙ e)
+
+pub read-writable : (message : List ℕ) → first (messageTests message) ≡ 0 → Writable (headerOf message) (elements message) (length message)
+unfolding elements
+read-writable message clear =
+    let r = readable message clear in record { fields = r .head .fields; count = length-elements _ _; room = r .whole; below = r .below }
 
 -- and it passes its tests
 module _ (message store : List ℕ) (room : 4096 ≤ length store) (clear : first (messageTests message) ≡ 0) where
@@ -75,6 +82,9 @@ module _ (message store : List ℕ) (room : 4096 ≤ length store) (clear : firs
             ∙ ap (elementTest (headerOf message .modulus)) front-read
             ∙ r .below;
       })
+
+pub shared-writable : (h : Header) (xs : List ℕ) → Shared h xs → Writable h (take (elementCount h) xs) (16 + 4 * elementCount h)
+shared-writable h xs s = record { fields = s .fields; count = length-take-le _ xs (s .room); room = refl; below = s .below }
 
 -- the same numbers, in the words of the product
 count-is : (h : Header) → elementCount h ≡ h .rows * h .columns
@@ -105,19 +115,13 @@ module _ (g h : Header) where
         enough = ltb-false room _ (enough .0);
       }
 
-  module _ (xs ys : List ℕ) (left : Shared g xs) (right : Shared h ys) (out : List ℕ) (clear : first (pairTests g h (length out)) ≡ 0) where
-    -- the elements of the two shares, and their product
-    abbrev a : List ℕ
-    a = take (elementCount g) xs
-
-    abbrev b : List ℕ
-    b = take (elementCount h) ys
-
+  -- the elements of the two shares
+  module _ (xs ys : List ℕ) {m n : ℕ} (left : Writable g xs m) (right : Writable h ys n) (room : ℕ) (clear : first (pairTests g h room) ≡ 0) where
     abbrev block : List ℕ
-    block = productOf (modulus (g .modulus)) (g .rows) (g .columns) (h .columns) a b
+    block = productOf (modulus (g .modulus)) (g .rows) (g .columns) (h .columns) xs ys
 
-    p : Paired (length out)
-    p = paired (length out) clear
+    p : Paired room
+    p = paired room clear
 
     in-g : Ranged g
     in-g = ranged g (left .fields)
@@ -130,21 +134,21 @@ module _ (g h : Header) where
     unfolding elementCount
     right-count = ap (λ (k : ℕ). k * h .columns) (sym (p .sizes))
 
-    product-clear : (n : ℕ) → n ≡ g .rows * h .columns → first (productTests (g .modulus) (g .rows) (g .columns) (h .columns) a b n) ≡ 0
+    product-clear : (k : ℕ) → k ≡ g .rows * h .columns → first (productTests (g .modulus) (g .rows) (g .columns) (h .columns) xs ys k) ≡ 0
     unfolding productTests sizesOutside anyOutside overBlock elementTest
-    product-clear n e =
+    product-clear k e =
         let left-block : g .rows * g .columns ≤ 4096 = omega (arith, in-g .count, count-is g) in
         let right-block : g .columns * h .columns ≤ 4096 = omega (arith, in-h .count, right-count) in
         first-miss _ 1 _ (in-g .known)
         ∙ first-miss _ 2 _ (ap₂ _||_ (ap₂ _||_ (in-range (in-g .rows)) (in-range (in-g .columns))) (in-range (in-h .columns)))
         ∙ first-miss _ 6 _ (ap₂ _||_ (ap₂ _||_ (le-ltb 4096 _ left-block) (le-ltb 4096 _ right-block)) (le-ltb 4096 _ (p .count)))
         ∙ first-miss _ 13 _
-        (ap₂ _||_ (ap₂ _||_ (alike _ _ (length-take-le _ xs (left .room) ∙ count-is g)) (alike _ _ (length-take-le _ ys (right .room) ∙ right-count))) (alike n _ e))
-        ∙ first-miss _ 14 _ (ap₂ _||_ (left .below) (ap (λ (k : ℕ). elementTest k b) (p .moduli) ∙ right .below))
+        (ap₂ _||_ (ap₂ _||_ (alike _ _ (left .count ∙ count-is g)) (alike _ _ (right .count ∙ right-count))) (alike k _ e))
+        ∙ first-miss _ 14 _ (ap₂ _||_ (left .below) (ap (λ (k : ℕ). elementTest k ys) (p .moduli) ∙ right .below))
         ∙ first-none
 
     pub multiplied : (lent : List ℕ) → length lent ≡ g .rows * h .columns
-        → productAfter (g .modulus) (g .rows) (g .columns) (h .columns) a b lent ≡ block
+        → productAfter (g .modulus) (g .rows) (g .columns) (h .columns) xs ys lent ≡ block
     unfolding productAfter
     multiplied lent e = unless-done _ _ lent (product-clear (length lent) e)
 
@@ -156,32 +160,29 @@ module _ (g h : Header) where
     unfolding productOf
     block-below = below-grid _ _ _ _ (λ k l. mod-lt _ (omega (arith, known-number (g .modulus) (in-g .known) .is-prime .above-one)))
 
-    answer-written : (n : ℕ) → n ≡ 16 + 4 * (g .rows * h .columns) → first (writeTests (pairHeader g h) block n) ≡ 0
+    pub answer-written : (k : ℕ) → k ≡ 16 + 4 * (g .rows * h .columns) → first (writeTests (pairHeader g h) block k) ≡ 0
     unfolding pairHeader elementCount elementTest
-    answer-written n e =
-        writes (pairHeader g h) block n (record {
+    answer-written k e =
+        writes (pairHeader g h) block k (record {
           fields = fields-pass (pairHeader g h) (record { low = omega arith; high = omega arith }) (in-g .known) (in-g .host) (in-g .rows) (in-h .columns) (p .count);
           count = block-length;
           room = e;
           below = ap not (below-test _ _ block-below);
         })
 
-    length-answer : length (pairAnswer g h a b) ≡ 16 + 4 * (g .rows * h .columns)
+    length-answer : length (pairAnswer g h xs ys) ≡ 16 + 4 * (g .rows * h .columns)
     unfolding pairAnswer messageOf
     length-answer =
         omega (arith, length-append (header (pairHeader g h)) (bytesOf block), length-header (pairHeader g h), length-bytesOf block, block-length)
 
-    pub done : (k : Header) (made part : List ℕ) (end : ℕ) → k ≡ pairHeader g h → made ≡ block → end ≡ 16 + 4 * (g .rows * h .columns)
-        → part ≡ written k made (take end out)
-        → (part ++ drop end out ≡ unlessRefused (pairTests g h (length out)) (pairAnswer g h a b ++ drop (length (pairAnswer g h a b)) out) out)
-        × (end ≡ length (pairAnswer g h a b))
+    pub done : (out : List ℕ) → length out ≡ room → (k : Header) (made part : List ℕ) (end : ℕ) → k ≡ pairHeader g h → made ≡ block
+        → end ≡ 16 + 4 * (g .rows * h .columns) → part ≡ written k made (take end out)
+        → let answer = pairAnswer g h xs ys in (part ++ drop end out ≡ answer ++ drop (length answer) out) × (end ≡ length answer)
     unfolding pairAnswer
-    done k made part end is-k is-made is-end is-part =
+    done out is-room k made part end is-k is-made is-end is-part =
         let whole = length-take-le end out (omega (arith, p .enough)) ∙ is-end in
-        let message = is-part ∙ ap₂ (λ (k : Header) (xs : List ℕ). written k xs (take end out)) is-k is-made ∙ written-done _ _ _ (answer-written _ whole) in (
-          ap₂ (λ (xs : List ℕ) (n : ℕ). xs ++ drop n out) message (is-end ∙ sym length-answer) ∙ sym (unless-done _ _ out clear),
-          is-end ∙ sym length-answer,
-        )
+        let message = is-part ∙ ap₂ (λ (k : Header) (zs : List ℕ). written k zs (take end out)) is-k is-made ∙ written-done _ _ _ (answer-written _ whole) in
+        (ap₂ (λ (zs : List ℕ) (n : ℕ). zs ++ drop n out) message (is-end ∙ sym length-answer), is-end ∙ sym length-answer)
 
 -- two messages, the output, and what stood at `written`
 module _ (a b out : List ℕ) (before : ℕ) where

@@ -10,15 +10,13 @@
 --   orWas                    the values that an outcome tells, or what was there where it tells none
 --   arrived-number           the number of an arrival
 --   setAll                   values written over a list, one after another
---   set-room                 there is room for the next of them
 --   set-all                  the list is then the values, where it is as long as they are
 use mathlib.Core.Path.{_≡_, refl, sym, ap, _∙_}
 use mathlib.Core.Bool.{Bool, true, false, cond, not, _||_}
 use mathlib.Core.List.{List, [], _∷_}
-use Prim.Native.Nat.{ℕ, zero, suc, _<_}
+use Prim.Native.Nat.{ℕ, zero, suc}
 use native.Mathlib.Nat.{suc-ne-zero, suc-inj}
-use lib.ListN.{length, getD, take, set, length-set}
-use borrow.Author.Needs.{below-length}
+use lib.ListN.{length, getD, set}
 use borrow.Author.Tests.{ne-eqb}
 use Rattle.algebra.proofs.Tests.{alike}
 use Rattle.refusal.specs.Chain.{Test, first, outcome, unlessRefused, Told, done, refused, differs}
@@ -103,16 +101,9 @@ unfolding arrived entered
 arrived-number job points heard store message minute =
     by-number (entered heard message) (first (arrivalTests job points heard store message minute)) (rw entered-number)
 
-abbrev pub setAll : List ℕ → List ℕ → ℕ → List ℕ
+abbrev setAll : List ℕ → List ℕ → ℕ → List ℕ
 setAll [] xs i = xs
 setAll (v ∷ vs) xs i = setAll vs (set xs i v) (suc i)
-
-set-length : (vs xs : List ℕ) (i : ℕ) → length (setAll vs xs i) ≡ length xs
-set-length [] xs i = refl
-set-length (v ∷ vs) xs i = set-length vs (set xs i v) (suc i) ∙ length-set xs i v
-
-pub set-room : (vs xs : List ℕ) (n i : ℕ) → length xs ≡ n → i < n → i < length (setAll (take i vs) xs 0)
-set-room vs xs n i e l = below-length ℕ (setAll (take i vs) xs 0) i n (set-length (take i vs) xs 0 ∙ e) l
 
 set-past : (vs : List ℕ) (x : ℕ) (xs : List ℕ) (i : ℕ) → setAll vs (x ∷ xs) (suc i) ≡ x ∷ setAll vs xs i
 set-past [] x xs i = refl

@@ -26,6 +26,7 @@ use Rattle.share_side.specs.Sides.{matrixTests}
 use Rattle.share.specs.Sharing.{shareTests, shareAfter}
 use Rattle.product.specs.Product.{productTests, productAfter}
 use Rattle.mukerihe.specs.Host.{hostTests, hostAfter}
+use Rattle.mukerihe.specs.Answer.{pairTests, hostAnswerTests, hostAnswerAfter}
 use Rattle.message_header.specs.Header.{headerOf, headerTests, fieldTests}
 use Rattle.message.specs.Format.{elements, writeTests, messageTests, readTests, written, readInto}
 use Rattle.message.proofs.Outcomes.{read-told}
@@ -127,7 +128,7 @@ after-plan : (job : Job) (points : List ℕ) (tests : List Test) → T (numbered
 after-plan job points tests = numbered-append (planTests job points) tests (plan-numbered job points)
 
 pub demand-1 : Demand1
-unfolding drawTests masksAfter shareTests matrixTests shareAfter productTests productAfter hostTests hostAfter fieldTests writeTests messageTests headerTests readTests written readInto stateTests answerTests minuteTests againTests arrivalTests entered storeEntered arrived storeAfter put next decodeTests tableTests tableAfter pageTests pageAfter numbered
+unfolding drawTests masksAfter shareTests matrixTests shareAfter productTests productAfter hostTests hostAfter pairTests hostAnswerTests hostAnswerAfter fieldTests writeTests messageTests headerTests readTests written readInto stateTests answerTests minuteTests againTests arrivalTests entered storeEntered arrived storeAfter put next decodeTests tableTests tableAfter pageTests pageAfter numbered
 demand-1 = record {
   plan = λ job points. tells (planTests job points) _ (plan-numbered job points) (plan-told job points);
   draw = λ n words out.
@@ -136,6 +137,7 @@ demand-1 = record {
   share = λ m job points host xs ms out. called _ _ _ (after-plan job points _ tt) refl;
   product = λ n rows inner columns a b out. called _ _ _ tt refl;
   host = λ n rows inner columns a b out. called _ _ _ tt refl;
+  answer = λ a b out. called _ _ _ tt refl;
   write = λ h xs out. called _ _ _ tt refl;
   read = λ message out.
       let is = read-told message (length out) in

@@ -4,7 +4,7 @@
 --   needed        K of an accepted job
 --   decoded       the decoded table, and the polynomials that it is read off
 --   demand-2      the demand holds
-use mathlib.Core.Path.{_≡_, sym, ap, ap₂, _∙_}
+use mathlib.Core.Path.{_≡_, refl, sym, ap, ap₂, _∙_}
 use mathlib.Core.List.{List, map}
 use Prim.Native.Nat.{ℕ, _+_, _*_, _/_, _%_, _^_, _<_, _≤_}
 use native.Mathlib.Nat.{mod-lt}
@@ -20,7 +20,7 @@ use Rattle.algebra.proofs.Grids.{length-grid, entry-grid, below-grid}
 use Rattle.algebra.proofs.Modular.{≈-trans, ≈-of-eq}
 use Rattle.algebra.proofs.Interpolation.{interpolates, recover}
 use Rattle.refusal.specs.Chain.{first}
-use Rattle.refusal.proofs.Chains.{first-clear, unless-done}
+use Rattle.refusal.proofs.Chains.{first-clear, first-append-clear, unless-done}
 use Rattle.field.specs.Modulus.{modulus}
 use Rattle.field.proofs.Moduli.{known-number}
 use Rattle.layout.specs.Exponents.{exponents}
@@ -35,7 +35,15 @@ use Rattle.product.specs.Product.{productEntry, productOf, productAfter}
 use Rattle.message_bytes.specs.Bytes.{bytesOf, elementsOf}
 use Rattle.message_bytes.proofs.Bytes.{elements-of-bytes}
 use Rattle.mukerihe.specs.Host.{hostTests, hostProduct, hostAfter}
-use Rattle.message.proofs.RoundTrips.{round-trips}
+use Rattle.message_bytes.proofs.Words.{number-of-four}
+use Rattle.message_header.specs.Header.{headerOf}
+use Rattle.message.specs.Format.{elements, messageTests}
+use Rattle.message.specs.RoundTrips.{ReadsBack}
+use Rattle.message.proofs.Tests.{message-numbered}
+use Rattle.message.proofs.Fields.{readable}
+use Rattle.message.proofs.RoundTrips.{reads-back, round-trips}
+use Rattle.mukerihe.specs.Answer.{pairHeader, pairTests, pairAnswer, hostAnswer, hostAnswerTests}
+use Rattle.mukerihe.proofs.Answers.{read-writable, answer-written}
 use Rattle.decode.specs.Decoding.{answerEntry, chosen, tableEntry, blocks, tableOf, tableLength, decodeTests, tableAfter}
 use Rattle.decode.proofs.Outcomes.{known, told, chosen-are}
 use Rattle.decode.proofs.Chosen.{Chosen}
@@ -193,6 +201,34 @@ module _ (n rows inner columns : ℕ) (a b out : List ℕ) (clear : first (hostT
   on-bytes =
       ap₂ elementsOf (sym (length-grid _ rows columns)) (unless-done _ (bytesOf product) out clear) ∙ elements-of-bytes product product-small
 
+-- ---- a host's whole part
+
+-- the number that four bytes of a message tell
+number-small : (message : List ℕ) → AllBelow 256 message → 16 ≤ length message → headerOf message .number < 2 ^ 32
+unfolding headerOf
+number-small message bytes long =
+    omega (arith, number-of-four message 12, bytes 12 (omega arith), bytes 13 (omega arith), bytes 14 (omega arith), bytes 15 (omega arith))
+
+module _ (a b : List ℕ) (room : ℕ) (bytes : AllBelow 256 a) (clear : first (hostAnswerTests a b room) ≡ 0) where
+  -- each of the two messages passes its tests, and so do both together
+  parts : (first (messageTests a) ≡ 0) × (first (messageTests b) ≡ 0) × (first (pairTests (headerOf a) (headerOf b) room) ≡ 0)
+  unfolding hostAnswerTests
+  parts =
+      let one = first-append-clear (messageTests a) _ (message-numbered a) clear in
+      let two = first-append-clear (messageTests b) _ (message-numbered b) (one .1) in
+      (one .0, two .0, two .1)
+
+  back : ReadsBack (pairHeader (headerOf a) (headerOf b)) (productOf (modulus (headerOf a .modulus)) (headerOf a .rows) (headerOf a .columns) (headerOf b .columns) (elements a) (elements b))
+  unfolding pairHeader
+  back =
+      reads-back _ _ _ (number-small a bytes (readable a (parts .0) .head .long))
+      (answer-written (headerOf a) (headerOf b) (elements a) (elements b) (read-writable a (parts .0)) (read-writable b (parts .1)) room (parts .2) _ refl)
+
+  answer : (first (messageTests (hostAnswer a b)) ≡ 0)
+      × Modulo (modulus (headerOf a .modulus)) (headerOf a .rows) (headerOf b .columns) (productEntry (headerOf a .columns) (headerOf b .columns) (elements a) (elements b)) (elements (hostAnswer a b))
+  unfolding hostAnswer pairAnswer productOf
+  answer = (back .accepted, modulo-grid _ _ _ _ (back .same-elements))
+
 pub demand-2 : Demand2
 unfolding shareAfter hostShare shareOf productAfter productOf product
 demand-2 = record {
@@ -200,6 +236,7 @@ demand-2 = record {
   needed = needed;
   product = λ n rows inner columns a b out clear. modulo-grid _ _ _ _ (unless-done _ _ out clear);
   host = λ n rows inner columns a b out clear. modulo-grid _ _ _ _ (on-bytes n rows inner columns a b out clear);
+  answer = answer;
   table = decoded;
   messages = round-trips;
 }

@@ -7,14 +7,15 @@
 --   share-written      so is writing a share's message
 --   product-done, product-written  the same of an answer
 --   host-done          so is the product on bytes, of the payloads of both messages
+--   answer-clear, answer-made  so is the host's whole part, of both messages
 --   made               K and the messages of demand 3 are what these calls give
 use mathlib.Core.Path.{_≡_, refl, sym, ap, ap₂, _∙_}
 use mathlib.Core.Bool.{false, not, _||_}
-use mathlib.Core.List.{List, _∷_}
+use mathlib.Core.List.{List, _∷_, _++_}
 use Prim.Native.Nat.{ℕ, suc, _+_, _*_, _<_, _≤_}
 use native.Mathlib.Nat.{mod-lt}
 use native.Mathlib.Omega.{arith}
-use lib.ListN.{length}
+use lib.ListN.{length, drop}
 use lib.Seq.{drop-at}
 use borrow.Author.Tests.{le-ltb}
 use Rattle.algebra.specs.Lists.{AllBelow, allBelow}
@@ -24,7 +25,7 @@ use Rattle.algebra.proofs.Grids.{length-grid, below-grid}
 use Rattle.refusal.specs.Chain.{Test, first}
 use Rattle.field.specs.Modulus.{noModulus}
 use Rattle.refusal.specs.Limits.{anyOutside, sizesOutside, overBlock}
-use Rattle.refusal.proofs.Chains.{first-none, first-miss, outcome-done, unless-done, inside}
+use Rattle.refusal.proofs.Chains.{first-none, first-miss, first-append, outcome-done, unless-done, inside}
 use Rattle.refusal.proofs.Limits.{Within, in-range}
 use Rattle.plan.specs.Planning.{parameters, prime, blockRows, blockInner, blockColumns}
 use Rattle.plan.proofs.Facts.{Fits, facts}
@@ -36,15 +37,20 @@ use Rattle.share_side.specs.declared.Matrix.the-variants.{A, B}
 use Rattle.share_side.specs.Sides.{side, blockLength, matrixLength, maskLength, matrixTests}
 use Rattle.share.specs.Sharing.{shareOf, hostShare, shareTests, shareAfter}
 use Rattle.product.specs.Product.{productOf, productTests, productAfter}
+use Rattle.message_header.specs.declared.Header.{Header}
 use Rattle.message_bytes.specs.Bytes.{bytesOf, elementsOf}
 use Rattle.message_bytes.proofs.Bytes.{length-bytesOf, elements-of-bytes}
 use Rattle.mukerihe.specs.Host.{hostTests, hostProduct, hostAfter}
+use Rattle.mukerihe.specs.Answer.{pairHeader, pairTests, pairAnswer, hostAnswer, hostAnswerTests, hostAnswerAfter}
 use Rattle.message_header.proofs.Fields.{fields-pass}
 use Rattle.message_header.proofs.Headers.{length-header}
 use Rattle.message_header.specs.Header.{header, elementCount}
-use Rattle.message.specs.Format.{messageOf, payload, elementTest, writeTests, written}
+use Rattle.message.specs.Format.{messageOf, payload, elements, elementTest, messageTests, writeTests, written}
+use Rattle.message.specs.RoundTrips.{ReadsBack}
+use Rattle.message.proofs.Tests.{message-numbered}
 use Rattle.message.proofs.Fields.{writes}
 use Rattle.message.proofs.Outcomes.{written-done}
+use Rattle.message.proofs.RoundTrips.{reads-back}
 use Rattle.promise.specs.Demand3.{Task, Accepted, Masks, Made, matrix, kindOf, headerFor, shareHeader, answerHeader, shareFor, shareMessage, trueProduct}
 
 -- a size of a block is one of a matrix
@@ -228,6 +234,48 @@ module _ (x : Task) (ok : Accepted x) (i : ℕ) (low : i < x .job .hosts) where
         unless-done _ _ out (host-done out room)
         ∙ ap bytesOf (ap₂ (productOf q (blockRows (x .job)) (blockInner (x .job)) (blockColumns (x .job))) (elements-are A ma _ refl) (elements-are B mb _ refl))
 
+    -- the A message and the B message read back
+    message-back : (m : Matrix) (ms : List ℕ) → ReadsBack (shareHeader m x (suc i)) (shareFor m x (suc i) ms)
+    unfolding shareHeader headerFor
+    message-back m ms = reads-back _ _ _ (ok .number) (share-written m ms _ refl)
+
+    pair-clear : (room : ℕ) → 16 + 4 * elementCount (answerHeader x (suc i)) ≤ room → first (pairTests (shareHeader A x (suc i)) (shareHeader B x (suc i)) room) ≡ 0
+    unfolding pairTests pairHeader shareHeader answerHeader headerFor kindOf side elementCount
+    pair-clear room enough =
+        first-miss _ 1001 _ refl
+        ∙ first-miss _ 1003 _ (alike (x .job .modulus) _ refl)
+        ∙ first-miss _ 1004 _ (alike (suc i) _ refl)
+        ∙ first-miss _ 1005 _ (alike (x .job .number) _ refl)
+        ∙ first-miss _ 1006 _ (alike (blockInner (x .job)) _ refl)
+        ∙ first-miss _ 6 _ (le-ltb 4096 _ (fits .block-c))
+        ∙ first-miss _ 13 _ (le-ltb room _ enough)
+        ∙ first-none
+
+    answer-clear : (room : ℕ) → 16 + 4 * elementCount (answerHeader x (suc i)) ≤ room
+        → first (hostAnswerTests (shareMessage A x (suc i) ma) (shareMessage B x (suc i) mb) room) ≡ 0
+    unfolding hostAnswerTests shareMessage
+    answer-clear room enough =
+        let a = message-back A ma in
+        let b = message-back B mb in
+        first-append (messageTests _) _ (message-numbered _) (a .accepted)
+        ∙ first-append (messageTests _) _ (message-numbered _) (b .accepted)
+        ∙ ap₂ (λ (g h : Header). first (pairTests g h room)) (a .same-header) (b .same-header)
+        ∙ pair-clear room enough
+
+    true-answer : hostAnswer (shareMessage A x (suc i) ma) (shareMessage B x (suc i) mb) ≡ trueProduct x (suc i) ma mb
+    unfolding hostAnswer shareMessage trueProduct pairAnswer pairHeader shareHeader answerHeader headerFor side prime
+    true-answer =
+        let a = message-back A ma in
+        let b = message-back B mb in
+        ap₂ (λ (g h : Header). pairAnswer g h (elements (shareMessage A x (suc i) ma)) (elements (shareMessage B x (suc i) mb))) (a .same-header) (b .same-header)
+        ∙ ap₂ (pairAnswer (shareHeader A x (suc i)) (shareHeader B x (suc i))) (a .same-elements) (b .same-elements)
+
+    answer-made : (out : List ℕ) → 16 + 4 * elementCount (answerHeader x (suc i)) ≤ length out
+        → hostAnswerAfter (shareMessage A x (suc i) ma) (shareMessage B x (suc i) mb) out ≡ trueProduct x (suc i) ma mb ++ drop (length (trueProduct x (suc i) ma mb)) out
+    unfolding hostAnswerAfter
+    answer-made out enough =
+        unless-done _ _ out (answer-clear (length out) enough) ∙ ap (λ (zs : List ℕ). zs ++ drop (length zs) out) true-answer
+
     pub made : Masks A x ma → Masks B x mb → Made x (suc i) ma mb
     unfolding shareMessage trueProduct answer shareFor matrix payload messageOf
     made masks-a masks-b =
@@ -244,4 +292,5 @@ module _ (x : Task) (ok : Accepted x) (i : ℕ) (low : i < x .job .hosts) where
               ap₂ (λ (xs ys : List ℕ). hostAfter (x .job .modulus) (blockRows (x .job)) (blockInner (x .job)) (blockColumns (x .job)) xs ys out) (payload-is A ma) (payload-is B mb)
               ∙ host-made out room
               ∙ sym (drop-at (header (answerHeader x (suc i))) (bytesOf answer) 16 (length-header _));
+          answer = λ out enough. (answer-clear (length out) enough, answer-made out enough);
         }

@@ -27,7 +27,10 @@ use Rattle.share_side.specs.Sides.{side}
 use Rattle.share.specs.Sharing.{shareEntry, point, shareTests, shareAfter}
 use Rattle.product.specs.Product.{productEntry, productTests, productAfter}
 use Rattle.message_bytes.specs.Bytes.{elementsOf}
+use Rattle.message_header.specs.Header.{headerOf}
+use Rattle.message.specs.Format.{elements, messageTests}
 use Rattle.mukerihe.specs.Host.{hostTests, hostAfter}
+use Rattle.mukerihe.specs.Answer.{hostAnswer, hostAnswerTests}
 use Rattle.message.specs.RoundTrips.{RoundTrips}
 use Rattle.arrival_heard.specs.Heard.{isHeard}
 use Rattle.decode.specs.Decoding.{answerEntry, chosen, tableLength, decodeTests, tableAfter}
@@ -79,6 +82,12 @@ pub record Demand2 : Type 0 where
   pub host : (n rows inner columns : ℕ) (a b out : List ℕ) → first (hostTests n rows inner columns a b (length out)) ≡ 0
       → Modulo (modulus n) rows columns (productEntry inner columns (elementsOf (rows * inner) a) (elementsOf (inner * columns) b))
       (elementsOf (rows * columns) (hostAfter n rows inner columns a b out))
+  -- the answer's message is one that is read; a byte is below 256
+  pub answer : (a b : List ℕ) (room : ℕ) → AllBelow 256 a → first (hostAnswerTests a b room) ≡ 0
+      → let g = headerOf a in let h = headerOf b in
+      (first (messageTests (hostAnswer a b)) ≡ 0)
+      × Modulo (modulus (g .modulus)) (g .rows) (h .columns) (productEntry (g .columns) (h .columns) (elements a) (elements b))
+      (elements (hostAnswer a b))
   -- "Decoding interpolates the answers of the K lowest-numbered hosts heard, and places the C(k,j) as the table."
   pub table : (job : Job) (points : List ℕ) (heard : ℕ) (store table : List ℕ)
       → first (decodeTests job points heard store (length table)) ≡ 0

@@ -28,7 +28,7 @@ use mathlib.Core.Logic.{_↔_}
 use mathlib.Core.List.{List, [], _∷_, _++_}
 use Prim.Native.Nat.{ℕ, suc, _+_, _*_, _^_, _<_, _≤_}
 use lib.Dec.{eqb}
-use lib.ListN.{length, getD}
+use lib.ListN.{length, getD, drop}
 use Rattle.algebra.specs.Lists.{AllBelow}
 use Rattle.algebra.specs.Sets.{size}
 use Rattle.refusal.specs.Chain.{first, except, done}
@@ -40,6 +40,7 @@ use Rattle.share_side.specs.Sides.{side, maskLength, blockLength}
 use Rattle.share.specs.Sharing.{hostShare, shareAfter}
 use Rattle.product.specs.Product.{productOf, productAfter}
 use Rattle.mukerihe.specs.Host.{hostAfter}
+use Rattle.mukerihe.specs.Answer.{hostAnswerTests, hostAnswerAfter}
 use Rattle.message_header.specs.declared.Header.{Header}
 use Rattle.message_header.specs.Header.{headerOf, elementCount}
 use Rattle.message.specs.Format.{messageOf, payload, written}
@@ -253,6 +254,10 @@ pub record Made (x : Task) (i : ℕ) (ma mb : List ℕ) : Type 0 where
       hostAfter (j .modulus) (blockRows j) (blockInner j) (blockColumns j)
       (payload (shareMessage A x i ma)) (payload (shareMessage B x i mb)) out
       ≡ payload (trueProduct x i ma mb)
+  -- and its call for a host's whole part makes the true product from the A message and the B message
+  pub answer : (out : List ℕ) → 16 + 4 * elementCount (answerHeader x i) ≤ length out
+      → let a = shareMessage A x i ma in let b = shareMessage B x i mb in let true-answer = trueProduct x i ma mb in
+      (first (hostAnswerTests a b (length out)) ≡ 0) × (hostAnswerAfter a b out ≡ true-answer ++ drop (length true-answer) out)
 
 pub record Demand3 : Type 0 where
   pub hidden : Privacy

@@ -11,7 +11,7 @@ use Rattle.message_header.specs.Header.{elementCount}
 use Rattle.message_header.proofs.Fields.{ranged}
 use Rattle.product.proofs.Rows.{front-there}
 use Rattle.mukerihe.specs.Answer.{pairTests}
-use Rattle.mukerihe.proofs.Answers.{Paired, paired, multiplied, done}
+use Rattle.mukerihe.proofs.Answers.{shared-writable, Paired, paired, multiplied, done}
 use Rattle.mukerihe.proofs.answer_pair.Statement.{statement}
 use Rattle.mukerihe.proofs.answer_pair.Tie as tie
 
@@ -120,10 +120,12 @@ returns-2 c =
     let e = passed made in
     let a = start e .args in
     let length-block = length-take-le {A = ℕ} (a .g .rows * a .h .columns) (replicate 4096 0) (fits e .count) in
-    let block = made .product .ensures .1 ∙ multiplied (a .g) (a .h) (a .left .now) (a .right .now) (start e .pre .0) (start e .pre .1) (a .out .now) (clear e) _ length-block in
+    let left = shared-writable (a .g) (a .left .now) (start e .pre .0) in
+    let right = shared-writable (a .h) (a .right .now) (start e .pre .1) in
+    let block = made .product .ensures .1 ∙ multiplied (a .g) (a .h) _ _ left right _ (clear e) _ length-block in
     let front = take-at (made .product .last .1 .1 .1 .1 .1 .1 .0) _ (a .g .rows * a .h .columns) (headed .before .block2 .given ∙ length-block) in
-    let after = done (a .g) (a .h) (a .left .now) (a .right .now) (start e .pre .0) (start e .pre .1) (a .out .now) (clear e) _ _ _ _ (headed .pair-header .ensures) (front ∙ block) refl (sent .write-message .ensures .1) in
-    (sym (clear e), (after .0, after .1 ∙ sym (unless-done _ _ _ (clear e))))
+    let after = done (a .g) (a .h) _ _ left right _ (clear e) (a .out .now) refl _ _ _ _ (headed .pair-header .ensures) (front ∙ block) refl (sent .write-message .ensures .1) in
+    (sym (clear e), (after .0 ∙ sym (unless-done _ _ _ (clear e)), after .1 ∙ sym (unless-done _ _ _ (clear e))))
 
 pub answer-pair-spec : {M : Type 1} → statement M
 answer-pair-spec =

@@ -38,14 +38,6 @@ same-length c = search needs
 abbrev start : tie.After-arrive → tie.Start
 start p = p .before .before .before .before .before .before .before .before .before
 
--- what the call returned is the outcome of an arrival in the job with these words
-arrived-is : (p : tie.After-arrive) → let a = start p .args in arrived (jobOf (a .job .now)) (a .points .now) (a .heard .now) (a .store .now) (a .message .now) (a .minute) ≡ p .arrive .result
-arrived-is p =
-    let a = start p .args in
-    sym
-    (p .arrive .ensures .0
-    ∙ ap (λ (job : Job). arrived job (a .points .now) (a .heard .now) (a .store .now) (a .message .now) (a .minute)) (p .before .before .before .job-of .ensures))
-
 -- what is told and left, whichever outcome it is
 outcome-is : (p : tie.After-arrive) (r : Arrived) → p .arrive .result ≡ r
     → let a = start p .args in
@@ -59,14 +51,13 @@ outcome-is p r e =
     let a = start p .args in
     let words = a .job .now in
     let same = p .before .before .before .before .if1 .left in
-    let is = arrived-is p ∙ e in
-    let stored = p .arrive .ensures .1
-    ∙ ap (λ (job : Job). storeAfter job (a .points .now) (a .heard .now) (a .store .now) (a .message .now) (a .minute)) (p .before .before .before .job-of .ensures) in (
+    let job = p .before .before .before .job-of .ensures in
+    let is = sym (p .arrive .ensures .0 ∙ ap (λ (x : Job). arrived x (a .points .now) (a .heard .now) (a .store .now) (a .message .now) (a .minute)) job) ∙ e in (
       sym (ap numberOf is) ∙ arrived-number (jobOf words) (a .points .now) (a .heard .now) (a .store .now) (a .message .now) (a .minute) ∙ sym (well-counted 13 words same _),
       (
         sym (ap (heardAfter (a .heard .now)) is) ∙ sym (made 13 words same _ _),
         (
-          stored ∙ sym (made 13 words same _ _),
+          p .arrive .ensures .1 ∙ ap (λ (x : Job). storeAfter x (a .points .now) (a .heard .now) (a .store .now) (a .message .now) (a .minute)) job ∙ sym (made 13 words same _ _),
           sym (ap (alreadyAfter (a .already .now)) is) ∙ sym (made 13 words same _ _),
         ),
       ),

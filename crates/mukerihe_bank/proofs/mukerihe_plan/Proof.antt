@@ -1,10 +1,10 @@
 -- `mukerihe_bank::mukerihe_plan` meets its contract.
 use mathlib.Core.Path.{_≡_, sym, ap, _∙_}
 use mathlib.Core.List.{List, [], _∷_}
-use Prim.Native.Nat.{ℕ, _<_}
+use Prim.Native.Nat.{ℕ}
 use lib.Dec.{lit<}
-use lib.ListN.{length, take}
-use borrow.Author.Needs.{needs}
+use lib.ListN.{length}
+use borrow.Author.Needs.{needs, below-length, below-set}
 use Rattle.algebra.proofs.Tests.{or-left, or-right, equal}
 use Rattle.refusal.specs.Chain.{first, unlessRefused, differs}
 use Rattle.plan.specs.declared.Job.{Job}
@@ -12,7 +12,7 @@ use Rattle.plan.specs.declared.Planned.{Planned}
 use Rattle.plan.specs.Planning.{planTests, planned, told, planValues}
 use Rattle.plan.proofs.Outcomes.{plan-told}
 use Rattle.mukerihe_bank.specs.Bank.{jobOf, counted}
-use Rattle.mukerihe_bank.proofs.Outcomes.{unmoved, well-counted, miscounted-either, orWas, told-values, setAll, set-room, set-all}
+use Rattle.mukerihe_bank.proofs.Outcomes.{unmoved, well-counted, miscounted-either, orWas, told-values, set-all}
 use Rattle.mukerihe_bank.proofs.mukerihe_plan.Statement.{statement}
 use Rattle.mukerihe_bank.proofs.mukerihe_plan.Tie as tie
 
@@ -57,23 +57,20 @@ values c number =
     let plan = c .before .before .planned2 .given .0 .0 in
     number ∷ plan .needed ∷ plan .rows ∷ plan .inner ∷ plan .columns ∷ []
 
-room : (c : tie.After-number-of) (i : ℕ) → i < 5 → i < length (setAll (take i (values c (c .number-of .result))) (was c) 0)
-room c i l = set-room (values c (c .number-of .result)) (was c) 5 i (five c) l
-
 slice-write-values : tie.Need-slice-write-values
-slice-write-values c = room c 0 (lit< tt)
+slice-write-values c = search (tt, lit<, below-length, below-set, five c) depth 8
 
 slice-write-values-2 : tie.Need-slice-write-values-2
-slice-write-values-2 c = room c 1 (lit< tt)
+slice-write-values-2 c = search (tt, lit<, below-length, below-set, five c) depth 8
 
 slice-write-values-3 : tie.Need-slice-write-values-3
-slice-write-values-3 c = room c 2 (lit< tt)
+slice-write-values-3 c = search (tt, lit<, below-length, below-set, five c) depth 8
 
 slice-write-values-4 : tie.Need-slice-write-values-4
-slice-write-values-4 c = room c 3 (lit< tt)
+slice-write-values-4 c = search (tt, lit<, below-length, below-set, five c) depth 8
 
 slice-write-values-5 : tie.Need-slice-write-values-5
-slice-write-values-5 c = room c 4 (lit< tt)
+slice-write-values-5 c = search (tt, lit<, below-length, below-set, five c) depth 8
 
 -- what is told and left, whichever outcome it is
 outcome-is : (p : tie.After-plan-job) (r : Planned) → p .plan-job .result ≡ r

@@ -1,17 +1,17 @@
 -- `mukerihe_bank::mukerihe_read` meets its contract.
 use mathlib.Core.Path.{_≡_, sym, ap, _∙_}
 use mathlib.Core.List.{List, [], _∷_}
-use Prim.Native.Nat.{ℕ, _<_}
+use Prim.Native.Nat.{ℕ}
 use lib.Dec.{lit<}
-use lib.ListN.{length, take}
-use borrow.Author.Needs.{needs}
+use lib.ListN.{length}
+use borrow.Author.Needs.{needs, below-length, below-set}
 use Rattle.refusal.specs.Chain.{first, unlessRefused}
 use Rattle.message_header.specs.Header.{headerOf, fields}
 use Rattle.message.specs.declared.Parsed.{Parsed}
 use Rattle.message.specs.Format.{readTests, readInto, told}
 use Rattle.message.proofs.Outcomes.{read-told}
 use Rattle.mukerihe_bank.specs.Bank.{counted, ifCounted}
-use Rattle.mukerihe_bank.proofs.Outcomes.{unmoved, miscounted, kept, well-counted, made, orWas, told-values, setAll, set-room, set-all}
+use Rattle.mukerihe_bank.proofs.Outcomes.{unmoved, miscounted, kept, well-counted, made, orWas, told-values, set-all}
 use Rattle.mukerihe_bank.proofs.mukerihe_read.Statement.{statement}
 use Rattle.mukerihe_bank.proofs.mukerihe_read.Tie as tie
 
@@ -42,26 +42,23 @@ values c =
     let h = c .before .parsed2 .given .0 .0 in
     h .kind ∷ h .modulus ∷ h .host ∷ h .rows ∷ h .columns ∷ h .number ∷ []
 
-room : (c : tie.After-known-told2) (i : ℕ) → i < 6 → i < length (setAll (take i (values c)) (was c) 0)
-room c i l = set-room (values c) (was c) 6 i (six c) l
-
 slice-write-fields : tie.Need-slice-write-fields
-slice-write-fields c = room c 0 (lit< tt)
+slice-write-fields c = search (tt, lit<, below-length, below-set, six c) depth 8
 
 slice-write-fields-2 : tie.Need-slice-write-fields-2
-slice-write-fields-2 c = room c 1 (lit< tt)
+slice-write-fields-2 c = search (tt, lit<, below-length, below-set, six c) depth 8
 
 slice-write-fields-3 : tie.Need-slice-write-fields-3
-slice-write-fields-3 c = room c 2 (lit< tt)
+slice-write-fields-3 c = search (tt, lit<, below-length, below-set, six c) depth 8
 
 slice-write-fields-4 : tie.Need-slice-write-fields-4
-slice-write-fields-4 c = room c 3 (lit< tt)
+slice-write-fields-4 c = search (tt, lit<, below-length, below-set, six c) depth 8
 
 slice-write-fields-5 : tie.Need-slice-write-fields-5
-slice-write-fields-5 c = room c 4 (lit< tt)
+slice-write-fields-5 c = search (tt, lit<, below-length, below-set, six c) depth 8
 
 slice-write-fields-6 : tie.Need-slice-write-fields-6
-slice-write-fields-6 c = room c 5 (lit< tt)
+slice-write-fields-6 c = search (tt, lit<, below-length, below-set, six c) depth 8
 
 same-length : tie.Need-same-length
 same-length c = search needs
