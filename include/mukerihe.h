@@ -4,8 +4,8 @@
  * A host gets a share of A and a share of B and sends back their product modulo a prime q. The
  * library libmukerihe.a, for x86-64 Linux, has two functions:
  *
- *   mukerihe_answer   the whole part: two messages in, the message of the answer out
  *   mukerihe_product  the product alone, on the bytes of elements
+ *   mukerihe_answer   the whole part: two messages in, the message of the answer out
  */
 #ifndef MUKERIHE_H
 #define MUKERIHE_H
@@ -122,13 +122,12 @@ uint32_t mukerihe_product(uint32_t modulus, uint32_t rows, uint32_t inner, uint3
  *      6  the answer would hold more than 4096 elements
  *     13  out_length is less than the answer needs
  *
- * Numbers from 1001 on are this library's own; those below are the job sheet's. 1002 is told by
- * mukerihe_bank.h alone.
+ * Numbers from 1001 on are the libraries' own, the others the job sheet's. 1002 is never returned
+ * here: it belongs to mukerihe_bank.h.
  *
- * Each pointer must be good for as many bytes as its length says, and written for one size_t. A
- * null pointer with length 0 is an empty buffer: an empty message gets 17, an empty out gets 13
- * unless an earlier number fits. Neither out nor *written may overlap anything else: nothing is
- * promised where they do.
+ * Each pointer must be good for as many bytes as its length says; written may not be null. A null
+ * pointer with length 0 is an empty buffer: an empty message gets 17 and an empty out 13, unless an
+ * earlier number fits. The buffers and *written must not overlap: nothing is promised where they do.
  *
  * The function keeps nothing between calls, so several threads may call it at the same time, each
  * with an out and a written of its own. It takes no memory but its stack, of which it needs about

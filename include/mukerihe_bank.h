@@ -37,11 +37,11 @@
  * - A list is a pointer and a length, which counts elements, or bytes for a message or a page. The
  *   pointer must be good for as many as the length says. A null pointer with length 0 is an empty
  *   list; with any other length it may not be null. Pointers without a length may never be null.
- * - What is written may overlap nothing else that the call is given: nothing is promised where it
- *   does. Lists that are only read may overlap.
+ * - No two lists of a call may overlap, nor a list and what another pointer points to: nothing is
+ *   promised where they do.
  * - It keeps nothing between calls, so several threads may call at the same time, each with outputs
  *   of its own.
- * - It takes no memory but its stack. What the functions need is written at MUKERIHE_BANK_STACK.
+ * - It takes no memory but its stack, at most MUKERIHE_BANK_STACK bytes.
  *
  * Matrices, blocks and tables lie row by row. An element is a whole number from 0 to q - 1.
  */
@@ -76,8 +76,7 @@
  *     9  MUKERIHE_BAD_POINTS          there are not N points
  *    10  MUKERIHE_BAD_POINT           a point is 0, or not below q
  *    11  MUKERIHE_REPEATED_POINT      a point equals an earlier one
- *    12  MUKERIHE_BAD_HOST            there is no such host: it is not 1 to N, in a message of its
- *                                     own not 1 to 64
+ *    12  MUKERIHE_BAD_HOST            the host is not 1 to N; in a message by itself, not 1 to 64
  *    13  MUKERIHE_BAD_LENGTH          a list has another length than it must have
  *    14  MUKERIHE_BAD_ELEMENT         an element is not below q
  *    15  MUKERIHE_BAD_MASK            an element of the masks is not below q
@@ -125,8 +124,12 @@
 #define MUKERIHE_FIELD_WORDS 6u
 #define MUKERIHE_PLAN_WORDS 5u
 
-/* The bytes of stack that a call takes at most. */
-#define MUKERIHE_BANK_STACK 131072u
+/*
+ * The bytes of stack that are enough for every function here. mukerihe_decode takes about 51 KB, the
+ * shares and mukerihe_multiply about 34 KB, any other below 1 KB. The functions of mukerihe.h need
+ * more: about 100 KB.
+ */
+#define MUKERIHE_BANK_STACK 65536u
 
 /* The most elements of a block: what mukerihe_read wants room for. */
 #define MUKERIHE_MOST_ELEMENTS 4096u

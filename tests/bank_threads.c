@@ -1,12 +1,14 @@
 /* Runs whole jobs by both libraries for C, of every modulus and layout, in one thread and in 16 at once: each job must give the same
- * in all, its table A times B. The threads have small stacks.
+ * in all, its table A times B. Then the same by the bank's library alone. The threads have no more stack than the headers ask for,
+ * and a little for the functions here.
  *
  *   struct work  a whole job: its numbers, its buffers, and what it gives
  *   draw_job     the numbers, points and matrices of a job
- *   answer_of    a host's messages
+ *   host_part    a host's answer, by its own library or by the bank's
  *   take         a host's answer, read and taken
  *   whole_job    a job of a seed, from the plan to the page
  *   run_jobs     all jobs in one of the threads
+ *   run_threads  all threads
  */
 #include "mukerihe.h"
 #include "mukerihe_bank.h"
@@ -16,7 +18,8 @@
 #include <stdlib.h>
 #include <string.h>
 
-enum { THREADS = 16, JOBS = 24, SIDE = 12, MOST_T = 3 * SIDE, MOST_S = 2 * SIDE, MOST_R = 2 * SIDE, MOST_GROUP = 7 };
+enum { THREADS = 16, JOBS = 32, ROUNDS = 10, SIDE = 12, MOST_T = 3 * SIDE, MOST_S = 2 * SIDE, MOST_R = 2 * SIDE, MOST_GROUP = 7 };
+enum { HOST_STACK = 100 * 1024, OWN_STACK = 16 * 1024 };
 enum { MOST_HOSTS = 40, BLOCK = SIDE * SIDE, HEADER = 16, MOST_PAGE = (MOST_T + 1) * (6 * (MOST_R / 6 + 1) + 11 * MOST_R) + MOST_R };
 
 /* A whole job: its numbers, matrices and masks, the messages of a host, and what is kept of it: hosts heard, store, table, page. */
@@ -25,7 +28,7 @@ struct work {
     struct mukerihe_plan_values plan;
     uint64_t state, heard;
     uint32_t points[MOST_HOSTS], a[MOST_T * MOST_S], b[MOST_S * MOST_R], random[MOST_GROUP * BLOCK + 64];
-    uint32_t a_masks[MOST_GROUP * BLOCK], b_masks[MOST_GROUP * BLOCK], block[2][BLOCK];
+    uint32_t a_masks[MOST_GROUP * BLOCK], b_masks[MOST_GROUP * BLOCK], block[3][BLOCK];
     uint32_t elements[MUKERIHE_MOST_ELEMENTS], store[MOST_HOSTS * BLOCK], table[MOST_T * MOST_R];
     uint8_t messages[3][HEADER + 4 * BLOCK], page[MOST_PAGE];
 };
@@ -57,14 +60,15 @@ static uint32_t prime_of(uint32_t modulus)
     return (const uint32_t[]){13, 257, 65537, 2147483647}[modulus - 1];
 }
 
-/* Draws the numbers, points and matrices of a job; the shapes give all three layouts. */
+/* Draws the numbers, points and matrices of a job. The shapes, m, p, n, the groups and N, give all three layouts; modulo 13 there are
+ * at most 12 hosts. */
 static void draw_job(struct work *w, uint64_t seed)
 {
-    static const uint32_t shapes[3][5] = {{1, 1, 1, 1, 12}, {2, 2, 2, 2, 20}, {3, 2, 2, 7, 40}};
+    static const uint32_t shapes[4][5] = {{1, 1, 1, 1, 12}, {3, 1, 1, 2, 12}, {2, 2, 2, 2, 20}, {3, 2, 2, 7, 40}};
     memset(w, 0, sizeof *w);
     w->state = seed;
     uint32_t modulus = 1 + (uint32_t)seed % 4;
-    const uint32_t *shape = shapes[modulus == 1 ? 0 : seed / 4 % 3];
+    const uint32_t *shape = shapes[seed / 4 % (modulus == 1 ? 2 : 4)];
     uint32_t x = shape[3], m = shape[0], p = shape[1], n = shape[2];
     uint32_t t = m * (1 + below(w, SIDE)), s = p * (1 + below(w, SIDE)), r = n * (1 + below(w, SIDE));
     w->job = (struct mukerihe_job){modulus, t, s, r, m, p, n, x, x, shape[4], below(w, UINT32_MAX), 10, 20};
@@ -85,12 +89,12 @@ static void draw_masks(struct work *w, uint32_t *masks, size_t count)
     must("draw", mukerihe_draw(w->job.modulus, w->random, words, masks, count, &used));
 }
 
-/* Makes the three messages of a host: its share of A, its share of B and its answer; returns the length of the answer. */
-static size_t answer_of(struct work *w, uint32_t host)
+/* Makes the messages of a host's shares: its share of A and its share of B. */
+static void send(struct work *w, uint32_t host)
 {
     const struct mukerihe_job *job = &w->job;
     const struct mukerihe_plan_values *v = &w->plan;
-    size_t a_count = v->rows * v->inner, b_count = v->inner * v->columns, written;
+    size_t a_count = v->rows * v->inner, b_count = v->inner * v->columns;
     struct mukerihe_fields a = {1, job->modulus, host, v->rows, v->inner, job->number};
     struct mukerihe_fields b = {2, job->modulus, host, v->inner, v->columns, job->number};
     must("share_a", mukerihe_share_a_job(job, w->points, job->hosts, host, w->a, job->t * job->s, w->a_masks, job->xa * a_count,
@@ -99,25 +103,36 @@ static size_t answer_of(struct work *w, uint32_t host)
         w->block[1], b_count));
     must("write", mukerihe_write_fields(&a, w->block[0], a_count, w->messages[0], HEADER + 4 * a_count));
     must("write", mukerihe_write_fields(&b, w->block[1], b_count, w->messages[1], HEADER + 4 * b_count));
+}
+
+/* Makes a host's answer, by its own library or by the bank's; returns its length. */
+static size_t host_part(struct work *w, uint32_t host, int alone)
+{
+    const struct mukerihe_plan_values *v = &w->plan;
+    size_t a_count = v->rows * v->inner, b_count = v->inner * v->columns, count = v->rows * v->columns, written = 0;
+    struct mukerihe_fields fields = {3, w->job.modulus, host, v->rows, v->columns, w->job.number};
+    must("multiply", mukerihe_multiply(w->job.modulus, v->rows, v->inner, v->columns, w->block[0], a_count, w->block[1], b_count,
+        w->block[2], count));
+    if (alone) {
+        must("write", mukerihe_write_fields(&fields, w->block[2], count, w->messages[2], HEADER + 4 * count));
+        return HEADER + 4 * count;
+    }
     must("answer", mukerihe_answer(w->messages[0], HEADER + 4 * a_count, w->messages[1], HEADER + 4 * b_count, w->messages[2],
         sizeof w->messages[2], &written));
     return written;
 }
 
 /* Takes the answer of a host: read, it is the product of its shares; then it arrives, and arrives again. */
-static void take(struct work *w, uint32_t host)
+static void take(struct work *w, uint32_t host, int alone)
 {
     const struct mukerihe_job *job = &w->job;
-    const struct mukerihe_plan_values *v = &w->plan;
-    size_t written = answer_of(w, host), count = v->rows * v->columns;
+    size_t written = host_part(w, host, alone), count = w->plan.rows * w->plan.columns;
     struct mukerihe_fields fields = {0};
-    uint32_t answer[BLOCK], already = 2;
     must("read", mukerihe_read_fields(w->messages[2], written, w->elements, MUKERIHE_MOST_ELEMENTS, &fields));
-    must("multiply", mukerihe_multiply(job->modulus, v->rows, v->inner, v->columns, w->block[0], v->rows * v->inner,
-        w->block[1], v->inner * v->columns, answer, count));
-    if (fields.kind != 3 || fields.host != host || memcmp(answer, w->elements, 4 * count) != 0)
+    if (fields.kind != 3 || fields.host != host || memcmp(w->block[2], w->elements, 4 * count) != 0)
         fail("answer", "it is not the product of the shares");
     for (uint32_t again = 0; again < 2; again++) {
+        uint32_t already = 2;
         must("arrive", mukerihe_arrive_job(job, w->points, job->hosts, &w->heard, w->store, job->hosts * count, w->messages[2],
             written, 10 + host % 10, &already));
         if (already != again)
@@ -125,8 +140,8 @@ static void take(struct work *w, uint32_t host)
     }
 }
 
-/* Runs the job of a seed: every host but the first answers, up to as many as are needed. */
-static void whole_job(struct work *w, uint64_t seed)
+/* Runs the job of a seed: from the second host on as many answer as are needed, where there are so many. */
+static void whole_job(struct work *w, uint64_t seed, int alone)
 {
     const struct mukerihe_job *job = &w->job;
     draw_job(w, seed);
@@ -134,8 +149,10 @@ static void whole_job(struct work *w, uint64_t seed)
     draw_masks(w, w->a_masks, job->xa * w->plan.rows * w->plan.inner);
     draw_masks(w, w->b_masks, job->xb * w->plan.inner * w->plan.columns);
     uint32_t first = job->hosts > w->plan.needed ? 2 : 1;
-    for (uint32_t host = first; host < first + w->plan.needed; host++)
-        take(w, host);
+    for (uint32_t host = first; host < first + w->plan.needed; host++) {
+        send(w, host);
+        take(w, host, alone);
+    }
     must("decode", mukerihe_decode_job(job, w->points, job->hosts, w->heard, w->store,
         job->hosts * w->plan.rows * w->plan.columns, w->table, job->t * job->r));
     for (size_t i = 0; i < job->t * job->r; i++) {
@@ -168,16 +185,22 @@ static void check_table(const struct work *w)
 /* What one thread made of each job. */
 static struct work *due;
 
-/* Runs all jobs, beginning with another one in each thread, and compares what they give. */
+/* What a thread begins with, and whether it calls the bank's library alone. */
+struct part {
+    size_t from;
+    int alone;
+};
+
+/* Runs all jobs, round by round, beginning with another one in each thread, and compares what they give. */
 static void *run_jobs(void *argument)
 {
-    size_t from = *(const size_t *)argument;
+    const struct part *part = argument;
     struct work *w = malloc(sizeof *w);
     if (w == NULL)
         fail("threads", "there is no memory");
-    for (size_t i = 0; i < JOBS; i++) {
-        size_t seed = (from + i) % JOBS;
-        whole_job(w, seed);
+    for (size_t i = 0; i < ROUNDS * JOBS; i++) {
+        size_t seed = (part->from + i) % JOBS;
+        whole_job(w, seed, part->alone);
         if (memcmp(w, &due[seed], sizeof *w) != 0)
             fail("threads", "two jobs differ");
     }
@@ -185,19 +208,18 @@ static void *run_jobs(void *argument)
     return NULL;
 }
 
-/* Runs all jobs in 16 threads at once. The library finds no more stack there than its header asks for, and 32 KB for the functions
- * here. */
-static void run_threads(void)
+/* Runs all jobs in 16 threads at once, on stacks of a size. */
+static void run_threads(int alone, size_t stack)
 {
     pthread_t threads[THREADS];
     pthread_attr_t attributes;
-    size_t from[THREADS];
+    struct part parts[THREADS];
     pthread_attr_init(&attributes);
-    if (pthread_attr_setstacksize(&attributes, MUKERIHE_BANK_STACK + 32768) != 0)
+    if (pthread_attr_setstacksize(&attributes, stack) != 0)
         fail("threads", "there is no such stack");
     for (size_t i = 0; i < THREADS; i++) {
-        from[i] = i;
-        if (pthread_create(&threads[i], &attributes, run_jobs, &from[i]) != 0)
+        parts[i] = (struct part){i, alone};
+        if (pthread_create(&threads[i], &attributes, run_jobs, &parts[i]) != 0)
             fail("threads", "a thread is not begun");
     }
     for (size_t i = 0; i < THREADS; i++)
@@ -208,15 +230,20 @@ static void run_threads(void)
 /* Runs the jobs in one thread, and then in many. */
 int main(void)
 {
+    unsigned layouts = 0;
     due = malloc(JOBS * sizeof *due);
     if (due == NULL)
         fail("threads", "there is no memory");
     for (size_t i = 0; i < JOBS; i++) {
-        whole_job(&due[i], i);
+        whole_job(&due[i], i, 0);
         check_table(&due[i]);
+        layouts |= 1u << due[i].plan.layout;
     }
-    run_threads();
+    if (layouts != 14)
+        fail("plan", "the jobs have not all layouts");
+    run_threads(0, HOST_STACK + OWN_STACK);
+    run_threads(1, MUKERIHE_BANK_STACK + OWN_STACK);
     free(due);
-    printf("bank_threads: %d threads with %d whole jobs each, all as in one thread\n", THREADS, JOBS);
+    printf("bank_threads: %d threads with %d whole jobs each, all as in one thread\n", THREADS, 2 * ROUNDS * JOBS);
     return 0;
 }

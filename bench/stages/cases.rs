@@ -117,6 +117,7 @@ fn by_block() -> Table {
     let stages = [
         Stage::Share,
         Stage::Product,
+        Stage::Answer,
         Stage::Arrival,
         Stage::Repeated,
         Stage::Decoding,

@@ -6,8 +6,7 @@
 --   pairHeader g h            == the header of their answer
 --   pairTests g h room        == g and h are not those of one host's A share and B share: kinds, modulus, host, job number, and A's
 --                                columns beside B's rows; then 6 and 13
---   pairAnswer g h xs ys      == the answer's message, where the elements are xs and ys
---   hostAnswer a b            == the answer to the messages a and b
+--   hostAnswer a b            == the answer's message
 --   hostAnswerTests a b room  == the tests of the call: those of A's message, those of B's, those of both together
 --   hostAnswerAfter a b out   == what the output then holds: past the answer it is untouched
 use mathlib.Core.Bool.{_||_}
@@ -39,11 +38,11 @@ pairTests g h room =
     ∷ (ltb mostElements count, 6)
     ∷ (ltb room (16 + 4 * count), 13) ∷ []
 
-unfoldable pub pairAnswer : Header → Header → List ℕ → List ℕ → List ℕ
-pairAnswer g h xs ys = messageOf (pairHeader g h) (productOf (modulus (g .modulus)) (g .rows) (g .columns) (h .columns) xs ys)
-
 unfoldable pub hostAnswer : List ℕ → List ℕ → List ℕ
-hostAnswer a b = pairAnswer (headerOf a) (headerOf b) (elements a) (elements b)
+hostAnswer a b =
+    let g = headerOf a in
+    let h = headerOf b in
+    messageOf (pairHeader g h) (productOf (modulus (g .modulus)) (g .rows) (g .columns) (h .columns) (elements a) (elements b))
 
 unfoldable pub hostAnswerTests : List ℕ → List ℕ → ℕ → List Test
 hostAnswerTests a b room = messageTests a ++ (messageTests b ++ pairTests (headerOf a) (headerOf b) room)

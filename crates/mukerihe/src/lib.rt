@@ -3,13 +3,14 @@
 ghost use mathlib.Core.Path.{_≡_};
 ghost use mathlib.Core.List.{_++_};
 ghost use Prim.Native.Nat.{_/_, _≤_, min};
-ghost use lib.ListN.{length, take, drop};
+ghost use lib.ListN.{length, drop};
 ghost use Rattle.refusal.specs.Chain.{first, unlessRefused};
 ghost use Rattle.refusal.specs.Limits.{mostElements};
-ghost use Rattle.message_header.specs.Header.{elementCount};
+ghost use Rattle.message_header.specs.Header.{headerOf};
+ghost use Rattle.message.specs.Format.{messageTests};
 ghost use Rattle.mukerihe.specs.Host.{hostTests, hostAfter};
-ghost use Rattle.mukerihe.specs.Answer.{pairHeader, pairTests, pairAnswer, hostAnswer, hostAnswerTests, hostAnswerAfter};
-ghost use Rattle.mukerihe.specs.Contracts.{wholeElements, Shared};
+ghost use Rattle.mukerihe.specs.Answer.{pairHeader, pairTests, hostAnswer, hostAnswerTests, hostAnswerAfter};
+ghost use Rattle.mukerihe.specs.Contracts.{wholeElements};
 use message::Parsed;
 use message_header::HEADER_BYTES;
 use message_header::Header;
@@ -186,43 +187,31 @@ fn pair_refusal(g: Header, h: Header, room: usize) -> u32
     0
 }
 
-// The answer to two messages that were read: their headers, and their elements at the front of two lists.
-fn answer_pair(
-    g: Header,
-    h: Header,
-    left: &[u32],
-    right: &[u32],
-    out: &mut [u8],
-    written: &mut usize,
-) -> u32
-    requires { ⌜ Shared g (now left) × Shared h (now right) ⌝ }
+// The answer to two messages that pass their tests, and have these headers.
+fn answer_pair(g: Header, h: Header, a: &[u8], b: &[u8], out: &mut [u8], written: &mut usize) -> u32
+    requires { ⌜ first (messageTests (now a)) ≡ 0 × first (messageTests (now b)) ≡ 0 × g ≡ headerOf (now a) × h ≡ headerOf (now b) ⌝ }
     ensures { λ r. ⌜ r ≡ first (pairTests g h (length (now (out .entry)))) ⌝ }
-    ensures { λ _. let was = now (out .entry) in
-        let made = pairAnswer g h (take (elementCount g) (now (left .entry))) (take (elementCount h) (now (right .entry))) in
+    ensures { λ _. let was = now (out .entry) in let made = hostAnswer (now (a .entry)) (now (b .entry)) in
         ⌜ now (out .exit) ≡ unlessRefused (pairTests g h (length was)) (made ++ drop (length made) was) was ⌝ }
-    ensures { λ _. let room = length (now (out .entry)) in
-        let made = pairAnswer g h (take (elementCount g) (now (left .entry))) (take (elementCount h) (now (right .entry))) in
+    ensures { λ _. let room = length (now (out .entry)) in let made = hostAnswer (now (a .entry)) (now (b .entry)) in
         ⌜ now (written .exit) ≡ unlessRefused (pairTests g h room) (length made) (now (written .entry)) ⌝ }
 {
     let refused = pair_refusal(g, h, out.len());
     if refused != 0 {
         return refused;
     }
-    let left_count = (g.rows * g.columns) as usize;
-    let right_count = (h.rows * h.columns) as usize;
-    let count = (g.rows * h.columns) as usize;
-    let mut block = [0u32; refusal::MOST_ELEMENTS];
-    product::product(
+    let end = HEADER_BYTES + 4 * (g.rows * h.columns) as usize;
+    let head = message_header::header_bytes(pair_header(g, h));
+    message_bytes::copy_bytes(&head, out);
+    mukerihe_product(
         g.modulus,
         g.rows,
         g.columns,
         h.columns,
-        &left[..left_count],
-        &right[..right_count],
-        &mut block[..count],
+        &a[HEADER_BYTES..],
+        &b[HEADER_BYTES..],
+        &mut out[HEADER_BYTES..end],
     );
-    let end = HEADER_BYTES + 4 * count;
-    message::write_message(pair_header(g, h), &block[..count], &mut out[..end]);
     *written = end;
     0
 }
@@ -237,16 +226,14 @@ pub extern "C" fn mukerihe_answer(a: &[u8], b: &[u8], out: &mut [u8], written: &
         ⌜ now (written .exit)
         ≡ unlessRefused (hostAnswerTests xs ys (length (now (out .entry)))) (length (hostAnswer xs ys)) (now (written .entry)) ⌝ }
 {
-    let mut left = [0u32; refusal::MOST_ELEMENTS];
-    let first = message::read_message(a, &mut left);
+    let first = message::examine(a);
     match first {
         Parsed::Refused(number) => number,
         Parsed::Fields(g) => {
-            let mut right = [0u32; refusal::MOST_ELEMENTS];
-            let second = message::read_message(b, &mut right);
+            let second = message::examine(b);
             match second {
                 Parsed::Refused(number) => number,
-                Parsed::Fields(h) => answer_pair(g, h, &left, &right, out, written),
+                Parsed::Fields(h) => answer_pair(g, h, a, b, out, written),
             }
         }
     }

@@ -42,8 +42,8 @@ use Rattle.message.specs.RoundTrips.{ReadsBack}
 use Rattle.message.proofs.Tests.{message-numbered}
 use Rattle.message.proofs.Fields.{readable}
 use Rattle.message.proofs.RoundTrips.{reads-back, round-trips}
-use Rattle.mukerihe.specs.Answer.{pairHeader, pairTests, pairAnswer, hostAnswer, hostAnswerTests}
-use Rattle.mukerihe.proofs.Answers.{read-writable, answer-written}
+use Rattle.mukerihe.specs.Answer.{pairHeader, pairTests, hostAnswer, hostAnswerTests}
+use Rattle.mukerihe.proofs.Answers.{answer-written}
 use Rattle.decode.specs.Decoding.{answerEntry, chosen, tableEntry, blocks, tableOf, tableLength, decodeTests, tableAfter}
 use Rattle.decode.proofs.Outcomes.{known, told, chosen-are}
 use Rattle.decode.proofs.Chosen.{Chosen}
@@ -222,11 +222,11 @@ module _ (a b : List ℕ) (room : ℕ) (bytes : AllBelow 256 a) (clear : first (
   unfolding pairHeader
   back =
       reads-back _ _ _ (number-small a bytes (readable a (parts .0) .head .long))
-      (answer-written (headerOf a) (headerOf b) (elements a) (elements b) (read-writable a (parts .0)) (read-writable b (parts .1)) room (parts .2) _ refl)
+      (answer-written a b (parts .0) (parts .1) room (parts .2) _ refl)
 
   answer : (first (messageTests (hostAnswer a b)) ≡ 0)
       × Modulo (modulus (headerOf a .modulus)) (headerOf a .rows) (headerOf b .columns) (productEntry (headerOf a .columns) (headerOf b .columns) (elements a) (elements b)) (elements (hostAnswer a b))
-  unfolding hostAnswer pairAnswer productOf
+  unfolding hostAnswer productOf
   answer = (back .accepted, modulo-grid _ _ _ _ (back .same-elements))
 
 pub demand-2 : Demand2

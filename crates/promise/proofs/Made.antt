@@ -10,7 +10,7 @@
 --   answer-clear, answer-made  so is the host's whole part, of both messages
 --   made               K and the messages of demand 3 are what these calls give
 use mathlib.Core.Path.{_≡_, refl, sym, ap, ap₂, _∙_}
-use mathlib.Core.Bool.{false, not, _||_}
+use mathlib.Core.Bool.{not, _||_}
 use mathlib.Core.List.{List, _∷_, _++_}
 use Prim.Native.Nat.{ℕ, suc, _+_, _*_, _<_, _≤_}
 use native.Mathlib.Nat.{mod-lt}
@@ -23,7 +23,7 @@ use Rattle.algebra.proofs.Tests.{alike}
 use Rattle.algebra.proofs.Lists.{below-test}
 use Rattle.algebra.proofs.Grids.{length-grid, below-grid}
 use Rattle.refusal.specs.Chain.{Test, first}
-use Rattle.field.specs.Modulus.{noModulus}
+use Rattle.field.specs.Modulus.{modulus, noModulus}
 use Rattle.refusal.specs.Limits.{anyOutside, sizesOutside, overBlock}
 use Rattle.refusal.proofs.Chains.{first-none, first-miss, first-append, outcome-done, unless-done, inside}
 use Rattle.refusal.proofs.Limits.{Within, in-range}
@@ -41,7 +41,7 @@ use Rattle.message_header.specs.declared.Header.{Header}
 use Rattle.message_bytes.specs.Bytes.{bytesOf, elementsOf}
 use Rattle.message_bytes.proofs.Bytes.{length-bytesOf, elements-of-bytes}
 use Rattle.mukerihe.specs.Host.{hostTests, hostProduct, hostAfter}
-use Rattle.mukerihe.specs.Answer.{pairHeader, pairTests, pairAnswer, hostAnswer, hostAnswerTests, hostAnswerAfter}
+use Rattle.mukerihe.specs.Answer.{pairHeader, pairTests, hostAnswer, hostAnswerTests, hostAnswerAfter}
 use Rattle.message_header.proofs.Fields.{fields-pass}
 use Rattle.message_header.proofs.Headers.{length-header}
 use Rattle.message_header.specs.Header.{header, elementCount}
@@ -263,12 +263,13 @@ module _ (x : Task) (ok : Accepted x) (i : ℕ) (low : i < x .job .hosts) where
         ∙ pair-clear room enough
 
     true-answer : hostAnswer (shareMessage A x (suc i) ma) (shareMessage B x (suc i) mb) ≡ trueProduct x (suc i) ma mb
-    unfolding hostAnswer shareMessage trueProduct pairAnswer pairHeader shareHeader answerHeader headerFor side prime
+    unfolding hostAnswer shareMessage trueProduct pairHeader shareHeader answerHeader headerFor side prime
     true-answer =
         let a = message-back A ma in
         let b = message-back B mb in
-        ap₂ (λ (g h : Header). pairAnswer g h (elements (shareMessage A x (suc i) ma)) (elements (shareMessage B x (suc i) mb))) (a .same-header) (b .same-header)
-        ∙ ap₂ (pairAnswer (shareHeader A x (suc i)) (shareHeader B x (suc i))) (a .same-elements) (b .same-elements)
+        let answer-of : Header → Header → List ℕ → List ℕ → List ℕ = λ g h xs ys. messageOf (pairHeader g h) (productOf (modulus (g .modulus)) (g .rows) (g .columns) (h .columns) xs ys) in
+        ap₂ (λ (g h : Header). answer-of g h (elements (shareMessage A x (suc i) ma)) (elements (shareMessage B x (suc i) mb))) (a .same-header) (b .same-header)
+        ∙ ap₂ (answer-of (shareHeader A x (suc i)) (shareHeader B x (suc i))) (a .same-elements) (b .same-elements)
 
     answer-made : (out : List ℕ) → 16 + 4 * elementCount (answerHeader x (suc i)) ≤ length out
         → hostAnswerAfter (shareMessage A x (suc i) ma) (shareMessage B x (suc i) mb) out ≡ trueProduct x (suc i) ma mb ++ drop (length (trueProduct x (suc i) ma mb)) out
