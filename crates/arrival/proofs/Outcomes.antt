@@ -1,6 +1,7 @@
 -- What an arrival returns and leaves, by its tests.
 --
 --   arrived-by         what an arrival returns, by its number and by whether its host is heard
+--   number-by          it then stands for that number
 --   told-message, told-answer, told-minute, told-again  a test of the message tells the number; or 22 or 12 does; or 30 does; or
 --                      the last test, 23
 --   refused            a message is refused by a number that is not 0: the store stays
@@ -15,7 +16,7 @@ use mathlib.Core.Path.{_≡_, refl, sym, ap, ap₂, _∙_}
 use mathlib.Core.Bool.{Bool, true, false, cond, not, _&&_, _||_}
 use mathlib.Core.Logic.{⊎-elim}
 use mathlib.Core.List.{List, [], _∷_, _++_}
-use Prim.Native.Nat.{ℕ, _+_, _*_, _<_, _≤_}
+use Prim.Native.Nat.{ℕ, zero, suc, _+_, _*_, _<_, _≤_}
 use native.Mathlib.Nat.{suc-ne-zero}
 use native.Mathlib.Omega.{arith}
 use lib.ListN.{length}
@@ -38,11 +39,17 @@ use Rattle.arrival_heard.specs.Heard.{isHeard, withHost}
 use Rattle.arrival.specs.declared.Arrived.{Arrived}
 use Rattle.arrival.specs.declared.Arrived.the-variants.{Taken, AlreadyIn, Refused}
 use Rattle.arrival.specs.Arriving.{answerLength, storeLength, withBlock, hostIndex, foreign, repeated, stateTests, answerTests, minuteTests, againTests}
-use Rattle.arrival.specs.Arriving.{arrivalTests, entered, storeEntered, arrived, storeAfter}
+use Rattle.arrival.specs.Arriving.{arrivalTests, entered, storeEntered, arrived, storeAfter, numberOf}
 use Rattle.arrival.specs.Contracts.{receivedTests, received, storeReceived}
 
 abbrev pub arrived-by : ℕ → List ℕ → ℕ → Bool → Arrived
 arrived-by heard message n h = outcome n (cond h AlreadyIn (Taken (withHost heard (hostIndex (headerOf message))))) Refused
+
+pub number-by : (heard : ℕ) (message : List ℕ) (n : ℕ) (h : Bool) → numberOf (arrived-by heard message n h) ≡ n
+unfolding outcome
+number-by heard message zero true = refl
+number-by heard message zero false = refl
+number-by heard message (suc n) h = refl
 
 -- a call with these tests is refused
 by-number : (tests : List Test) (next : Arrived) (after store : List ℕ) (n : ℕ) → (n ≡ 0 → ⊥) → first tests ≡ n

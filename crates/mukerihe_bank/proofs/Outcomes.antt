@@ -12,9 +12,9 @@
 --   setAll                   values written over a list, one after another
 --   set-all                  the list is then the values, where it is as long as they are
 use mathlib.Core.Path.{_≡_, refl, sym, ap, _∙_}
-use mathlib.Core.Bool.{Bool, true, false, cond, not, _||_}
+use mathlib.Core.Bool.{Bool, true, false, not, _||_}
 use mathlib.Core.List.{List, [], _∷_}
-use Prim.Native.Nat.{ℕ, zero, suc}
+use Prim.Native.Nat.{ℕ, suc}
 use native.Mathlib.Nat.{suc-ne-zero, suc-inj}
 use lib.ListN.{length, getD, set}
 use borrow.Author.Tests.{ne-eqb}
@@ -22,9 +22,10 @@ use Rattle.algebra.proofs.Tests.{alike}
 use Rattle.refusal.specs.Chain.{Test, first, outcome, unlessRefused, Told, done, refused, differs}
 use Rattle.refusal.proofs.Chains.{first-none, first-hit, first-miss, outcome-map, unless-done, unless-refused, told-number}
 use Rattle.plan.specs.declared.Job.{Job}
-use Rattle.arrival.specs.declared.Arrived.{Arrived}
-use Rattle.arrival.specs.declared.Arrived.the-variants.{Taken, AlreadyIn, Refused}
-use Rattle.arrival.specs.Arriving.{arrivalTests, entered, arrived, numberOf}
+use Rattle.message_header.specs.Header.{headerOf}
+use Rattle.arrival_heard.specs.Heard.{isHeard}
+use Rattle.arrival.specs.Arriving.{hostIndex, arrivalTests, entered, arrived, numberOf}
+use Rattle.arrival.proofs.Outcomes.{number-by}
 use Rattle.mukerihe_bank.specs.Bank.{counted, ifCounted}
 
 pub unmoved : {A : Type 0} (tests : List Test) (value was : A) → first tests ≡ 1002 → was ≡ unlessRefused tests value was
@@ -85,21 +86,11 @@ told-values tests own {t} v vs was same e =
     let is : t ≡ outcome (first tests) (done (v ∷ vs)) refused = e ∙ ap (λ (n : ℕ). outcome n (done (v ∷ vs)) refused) (sym same) in
     (ap (λ (t : Told ℕ). t .number) is ∙ told-number (v ∷ vs) (first tests), ap left is ∙ outcome-map left (done (v ∷ vs)) refused (first tests))
 
--- an arrival that no number fits tells 0
-entered-number : (h : Bool) (next : ℕ) → numberOf (cond h AlreadyIn (Taken next)) ≡ 0
-entered-number true next = refl
-entered-number false next = refl
-
-by-number : (next : Arrived) (n : ℕ) → numberOf next ≡ 0 → numberOf (outcome n next Refused) ≡ n
-unfolding outcome
-by-number next zero e = e
-by-number next (suc n) e = refl
-
 pub arrived-number : (job : Job) (points : List ℕ) (heard : ℕ) (store message : List ℕ) (minute : ℕ)
     → numberOf (arrived job points heard store message minute) ≡ first (arrivalTests job points heard store message minute)
 unfolding arrived entered
 arrived-number job points heard store message minute =
-    by-number (entered heard message) (first (arrivalTests job points heard store message minute)) (rw entered-number)
+    number-by heard message (first (arrivalTests job points heard store message minute)) (isHeard heard (hostIndex (headerOf message)))
 
 abbrev setAll : List ℕ → List ℕ → ℕ → List ℕ
 setAll [] xs i = xs

@@ -30,7 +30,7 @@ use Rattle.mukerihe.specs.Answer.{pairTests, hostAnswerTests, hostAnswerAfter}
 use Rattle.message_header.specs.Header.{headerOf, headerTests, fieldTests}
 use Rattle.message.specs.Format.{elements, writeTests, messageTests, readTests, written, readInto}
 use Rattle.message.proofs.Outcomes.{read-told}
-use Rattle.arrival.proofs.Outcomes.{arrived-by}
+use Rattle.arrival.proofs.Outcomes.{arrived-by, number-by}
 use Rattle.arrival_heard.specs.Heard.{isHeard, withHost}
 use Rattle.arrival.specs.Arriving.{answerLength, withBlock, hostIndex, stateTests, answerTests, minuteTests, againTests, arrivalTests}
 use Rattle.arrival.specs.Arriving.{entered, storeEntered, arrived, storeAfter, numberOf, heardAfter, alreadyIn}
@@ -93,7 +93,6 @@ module _ (job : Job) (heard : ℕ) (store message : List ℕ) where
   next = withHost heard (hostIndex (headerOf message))
 
   record Left (n : ℕ) (h : Bool) : Type 0 where
-    number : numberOf (arrived-by heard message n h) ≡ n
     made : numberOf (arrived-by heard message n h) ≡ 0 → cond h store put ≡ cond (alreadyIn (arrived-by heard message n h)) store put
     heard-made : numberOf (arrived-by heard message n h) ≡ 0 → heardAfter heard (arrived-by heard message n h) ≡ cond (alreadyIn (arrived-by heard message n h)) heard next
     heard-kept : (numberOf (arrived-by heard message n h) ≡ 0 → ⊥) → heardAfter heard (arrived-by heard message n h) ≡ heard
@@ -102,21 +101,18 @@ module _ (job : Job) (heard : ℕ) (store message : List ℕ) where
   left-by : (n : ℕ) (h : Bool) → Left n h
   unfolding next outcome
   left-by zero true = record {
-    number = refl;
     made = λ z. refl;
     heard-made = λ z. refl;
     heard-kept = λ ne. refl;
     already = ((λ e. (refl, refl)), (λ e. refl));
   }
   left-by zero false = record {
-    number = refl;
     made = λ z. refl;
     heard-made = λ z. refl;
     heard-kept = λ ne. absurd (ne refl);
     already = ((λ e. absurd (true≢false (sym e))), (λ e. absurd (true≢false (sym (e .1)))));
   }
   left-by (suc n) h = record {
-    number = refl;
     made = λ z. absurd (suc-ne-zero n z);
     heard-made = λ z. absurd (suc-ne-zero n z);
     heard-kept = λ ne. refl;
@@ -146,7 +142,7 @@ demand-1 = record {
       let tests = arrivalTests job points heard store message minute in
       let index = hostIndex (headerOf message) in
       let l = left-by job heard store message (first tests) (isHeard heard index) in
-      let c = called tests (storeEntered (answerLength job) heard store message) store (after-plan job points _ tt) (l .number) in (
+      let c = called tests (storeEntered (answerLength job) heard store message) store (after-plan job points _ tt) (number-by heard message (first tests) (isHeard heard index)) in (
         record { judged = c .judged; carried-out = λ z. c .carried-out z ∙ l .made z; refused = c .refused },
         l .heard-made,
         l .heard-kept,
