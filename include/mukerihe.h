@@ -125,6 +125,9 @@ uint32_t mukerihe_product(uint32_t modulus, uint32_t rows, uint32_t inner, uint3
  * Numbers from 1001 on are the libraries' own, the others the job sheet's. 1002 is never returned
  * here: it belongs to mukerihe_bank.h.
  *
+ * Two sharings under one job number, host and modulus number cannot be told apart by the function:
+ * it answers a share of A from one and a share of B from the other, where their sizes fit.
+ *
  * Each pointer must be good for as many bytes as its length says; written may not be null. A null
  * pointer with length 0 is an empty buffer: an empty message gets 17 and an empty out 13, unless an
  * earlier number fits. The buffers and *written must not overlap: nothing is promised where they do.

@@ -27,7 +27,8 @@
  *   struct mukerihe_fields       mukerihe_write_fields, mukerihe_read_fields
  *   struct mukerihe_plan_values  mukerihe_plan_job
  *
- * A host needs mukerihe.h alone. Link both libraries with -lmukerihe_bank -lmukerihe.
+ * A host needs mukerihe.h alone. Link both libraries with -lmukerihe_bank -lmukerihe. C99 or C++11
+ * is needed, or a later one: the wrappers are static inline.
  *
  * What holds for every function:
  *
@@ -173,8 +174,8 @@ uint32_t mukerihe_draw(uint32_t modulus, const uint32_t *words, size_t words_len
                        uint32_t *out, size_t out_length, size_t *used);
 
 /*
- * Makes a host's share of A: the sum of A's blocks and masks, each times the host's point to its
- * exponent.
+ * Makes a host's share of A: the sum modulo q of A's blocks and masks, each times the host's point
+ * to its exponent.
  *
  *   job, points  as in mukerihe_plan
  *   host         the host's number, 1 to N
@@ -191,8 +192,8 @@ uint32_t mukerihe_share_a(const uint32_t *job, size_t job_length,
                           uint32_t *out, size_t out_length);
 
 /*
- * Makes a host's share of B, in the same way: elements are B, s by r, the masks X_B blocks of inner
- * by columns, and so is the share.
+ * Makes a host's share of B, a sum modulo q in the same way: elements are B, s by r, the masks X_B
+ * blocks of inner by columns, and the share is inner by columns.
  */
 uint32_t mukerihe_share_b(const uint32_t *job, size_t job_length,
                           const uint32_t *points, size_t points_length, uint32_t host,
@@ -298,7 +299,9 @@ size_t mukerihe_page_length(uint32_t t, uint32_t r);
 
 /*
  * Writes a table, t by r, as a page: lines of a row number in 5 columns and up to six elements in
- * 11 columns each, with a heading line of column numbers. It ends in a line end, not in a 0 byte.
+ * 11 columns each, with a heading line of column numbers. A table of more than six columns has
+ * several panels of six columns, and in the last one what is left: each panel has its heading and
+ * all rows, and one blank line stands between two. A page ends in a line end, not in a 0 byte.
  *
  * Numbers: 1; 2 (t or r); 13 (table not t * r long); 28 (out not mukerihe_page_length(t, r) long);
  * 14.

@@ -3,52 +3,36 @@
  * with nothing changed, or the message of the product, with no byte past it changed.
  *
  *   struct sizes    the sizes of a pair: rows by inner times inner by columns
- *   write_message   a fit message
+ *   number_at       the number that some bytes are
+ *   put_at          writes a number as bytes
+ *   element         an element of a message
+ *   put_header      writes the header of a message
+ *   put_elements    writes the elements of a message
+ *   sizes           random sizes
+ *   other_size      another size for a field
  *   damage          puts one fault into a message
+ *   damage_pair     puts some faults into two messages, or none
+ *   copied          a copy of some bytes in a room
+ *   random_in       random bytes in a room, and a copy of them
  *   message_number  the number that is due for one message, by the sheet's order
- *   pair_number     the number that is due for both together
+ *   pair_number     the number that is due for two fit messages together
+ *   due_number      the number that is due
  *   check_answer    the answer byte by byte
+ *   out_length      the length of an output
+ *   draw_pair       two messages
  *   one_trial       one call, checked
  *   floors          how many calls must get each number
  */
 #include "mukerihe.h"
-#include "rooms.h"
+#include "trials.h"
 
 #include <string.h>
 
 enum { TRIALS = 100000, HEADER = 16, MOST = 4096, ROOM = HEADER + 4 * MOST + 64 };
 
-static uint64_t state = 20261117;
-
-/* A random number below n. */
-static uint32_t below(uint32_t n)
-{
-    state = state * 6364136223846793005u + 1442695040888963407u;
-    return (uint32_t)(state >> 33) % n;
-}
-
-struct buffer {
-    uint8_t *bytes;
-    size_t length;
-};
-
 struct sizes {
     uint32_t rows, inner, columns;
 };
-
-/* Ends the program: what is wrong, and in which trial. */
-static void fail(const char *what, uint32_t trial)
-{
-    fprintf(stderr, "trial %u: %s\n", trial, what);
-    exit(1);
-}
-
-/* The prime of a modulus number, 0 where there is none. */
-static uint32_t prime_of(uint32_t modulus)
-{
-    static const uint32_t primes[] = {0, 13, 257, 65537, 2147483647};
-    return modulus < sizeof primes / sizeof primes[0] ? primes[modulus] : 0;
-}
 
 /* The number that some big-endian bytes are. */
 static uint32_t number_at(const uint8_t *bytes, size_t at, size_t count)
@@ -134,14 +118,30 @@ static void damage(uint8_t *bytes, size_t *length)
     }
 }
 
-/* A copy of a message in a room; an empty one may be a null pointer. */
+/* Puts up to three faults into two messages; half of the pairs have none. */
+static void damage_pair(uint8_t drawn[2][2 * ROOM], size_t lengths[2])
+{
+    for (uint32_t faults = below(2) * below(4); faults > 0; faults--) {
+        uint32_t which = below(2);
+        damage(drawn[which], &lengths[which]);
+    }
+}
+
+/* A copy of some bytes in a room. */
 static struct buffer copied(struct room room, const uint8_t *bytes, size_t length)
 {
-    struct buffer b = {placed(room, length, below(2) == 0), length};
-    memcpy(b.bytes, bytes, length);
-    if (length == 0 && below(2) == 0)
-        b.bytes = NULL;
+    struct buffer b = buffer_in(room, length);
+    if (length > 0)
+        memcpy(b.bytes, bytes, length);
     return b;
+}
+
+/* Draws so many random bytes; a copy of them in a room. */
+static struct buffer random_in(struct room room, uint8_t *bytes, size_t length)
+{
+    for (size_t i = 0; i < length; i++)
+        bytes[i] = (uint8_t)below(256);
+    return copied(room, bytes, length);
 }
 
 /* The number that is due for one message: 17; 18; 19; 16; 1; 12; 2; 6; 20; 14. */
@@ -191,6 +191,15 @@ static uint32_t pair_number(const uint8_t *a, const uint8_t *b, size_t room)
     return room < HEADER + 4 * (size_t)count ? 13 : 0;
 }
 
+/* The number that is due: that of the first message, of the second, or of both together. */
+static uint32_t due_number(struct buffer a, struct buffer b, size_t room)
+{
+    uint32_t of_a = message_number(a), of_b = message_number(b);
+    if (of_a != 0)
+        return of_a;
+    return of_b != 0 ? of_b : pair_number(a.bytes, b.bytes, room);
+}
+
 /* Checks an answer: its header, its elements, its length, and that nothing past it is changed. */
 static void check_answer(uint32_t trial, const uint8_t *a, const uint8_t *b, struct buffer out, const uint8_t *before, size_t written)
 {
@@ -198,18 +207,18 @@ static void check_answer(uint32_t trial, const uint8_t *a, const uint8_t *b, str
     uint8_t header[HEADER];
     put_header(header, 3, a[6], a[7], rows, columns, number_at(a, 12, 4));
     if (written != HEADER + 4 * (size_t)rows * columns || memcmp(out.bytes, header, HEADER) != 0)
-        fail("another header or length than is due", trial);
+        fail_in(trial, "another header or length than is due");
     for (size_t i = 0; i < rows; i++) {
         for (size_t j = 0; j < columns; j++) {
             uint64_t sum = 0;
             for (size_t k = 0; k < inner; k++)
                 sum = (sum + (uint64_t)element(a, i * inner + k) * element(b, k * columns + j)) % q;
             if (element(out.bytes, i * columns + j) != sum)
-                fail("a wrong product", trial);
+                fail_in(trial, "a wrong product");
         }
     }
     if (memcmp(out.bytes + written, before + written, out.length - written) != 0)
-        fail("a byte past the answer has changed", trial);
+        fail_in(trial, "a byte past the answer has changed");
 }
 
 /* The length of an output: that of the answer, a little more or less, the most, or none. */
@@ -243,56 +252,31 @@ static uint32_t one_trial(uint32_t trial, struct room rooms[3])
     struct sizes s = sizes();
     size_t lengths[2], written = below(1000), told = written;
     draw_pair(s, drawn[0], drawn[1], lengths);
-    for (uint32_t faults = below(2) * below(4); faults > 0; faults--) {
-        uint32_t which = below(2);
-        damage(drawn[which], &lengths[which]);
-    }
+    damage_pair(drawn, lengths);
     struct buffer a = copied(rooms[0], drawn[0], lengths[0]), b = copied(rooms[1], drawn[1], lengths[1]);
-    size_t room = out_length(s);
-    for (size_t i = 0; i < room; i++)
-        before[i] = (uint8_t)below(256);
-    struct buffer out = copied(rooms[2], before, room);
-    uint32_t due = message_number(a);
-    due = due != 0 ? due : message_number(b);
-    due = due != 0 ? due : pair_number(a.bytes, b.bytes, out.length);
+    struct buffer out = random_in(rooms[2], before, out_length(s));
+    uint32_t due = due_number(a, b, out.length);
     uint32_t number = mukerihe_answer(a.bytes, a.length, b.bytes, b.length, out.bytes, out.length, &written);
     if (number != due)
-        fail("another number than is due", trial);
+        fail_in(trial, "another number than is due");
     if (number == 0)
         check_answer(trial, a.bytes, b.bytes, out, before, written);
     else if (written != told || (out.length != 0 && memcmp(out.bytes, before, out.length) != 0))
-        fail("a refused call has written", trial);
+        fail_in(trial, "a refused call has written");
     return number;
 }
 
 /* The numbers that a call can return, each with the least count of trials that must get it. */
-static const struct {
-    uint32_t number, least;
-} floors[] = {{0, 41188}, {1, 1430}, {2, 981}, {6, 1675}, {12, 2471}, {13, 10477}, {14, 2738}, {16, 1720}, {17, 4815},
-              {18, 4839}, {19, 4636}, {20, 8776}, {1001, 3707}, {1003, 2112}, {1004, 2765}, {1005, 3522}, {1006, 2148}};
-
-/* Prints the counts; 1 where one is below its floor, or another number was returned. */
-static int below_floors(const uint32_t *counts)
-{
-    uint32_t fewer = 0, sum = 0;
-    printf("answer_trials: %d calls; of each number", TRIALS);
-    for (size_t i = 0; i < sizeof floors / sizeof floors[0]; i++) {
-        uint32_t count = counts[floors[i].number];
-        printf(" %u: %u;", floors[i].number, count);
-        fewer |= count < floors[i].least;
-        sum += count;
-    }
-    fewer |= sum != TRIALS;
-    printf("%s\n", fewer ? " fewer than their floors" : "");
-    return (int)fewer;
-}
+static const struct floor_count floors[] = {{0, 41188}, {1, 1430}, {2, 981}, {6, 1675}, {12, 2471}, {13, 10477}, {14, 2738},
+    {16, 1720}, {17, 4815}, {18, 4839}, {19, 4636}, {20, 8776}, {1001, 3707}, {1003, 2112}, {1004, 2765}, {1005, 3522}, {1006, 2148}};
 
 /* Makes all trials. */
 int main(void)
 {
     struct room rooms[3] = {room_for(ROOM), room_for(ROOM), room_for(ROOM)};
     static uint32_t counts[1007];
+    state = 20261117;
     for (uint32_t trial = 0; trial < TRIALS; trial++)
         counts[one_trial(trial, rooms)]++;
-    return below_floors(counts);
+    return below_floors("answer_trials", TRIALS, floors, sizeof floors / sizeof floors[0], counts);
 }

@@ -1,32 +1,48 @@
-/* Tries the edges of both libraries for C: empty lists as null pointers, wrong counts of words, and what refused calls leave as it
- * was.
+/* Tries the edges of both libraries for C: empty lists as null pointers, wrong counts of words, what refused calls leave as it was,
+ * and the length of pages whose sizes are out of range.
  *
- *   struct desk     all that the calls of a small job are given and all that they write
- *   struct slice    a list of a call: where it starts, and its length
- *   struct call     a function that is tried: lay tells its lists, in the order in which their lengths are tested, make calls it
- *   set_up          a desk where every call is fit
- *   try_one         makes a call: its number must be the one that is due, and a refused one leaves the whole desk as it was
- *   try_empty       every set of a call's lists empty, as null pointers
- *   try_counts      wrong counts of words, alone and beside other faults
- *   faults          something that is put into a desk, and the number that is then due
- *   plan_faults     those of a job and its points, for every call that takes them
- *   try_faults      all faults
+ *   struct desk         all that the calls of a small job are given and all that they write
+ *   struct slice        a list of a call: where it starts, and its length
+ *   struct call         a function: lay tells its lists, in the order in which their lengths are tested, make calls it
+ *   tried               how many calls were made
+ *   WHOLE, LENT         a list of a desk, whole; a list of a call as pointer and length
+ *   lay_plan, ..        the lists of a call
+ *   make_plan, ..       a call made
+ *   plan, draw, ..      the functions, with the number that each empty list gets
+ *   calls, job_calls    all functions; those that take a job
+ *   serve               a host's messages and its answer
+ *   put_matrices        the matrices of a desk
+ *   put_masks           its random words and masks
+ *   put_words           its job, points and fields
+ *   hear                some hosts heard
+ *   set_up              a desk where every call is fit
+ *   try_one             makes a call: its number must be the one that is due, and a refused one leaves the whole desk as it was
+ *   try_empty           every set of a call's lists empty, as null pointers
+ *   try_count           a wrong count of words, alone and beside other faults
+ *   try_counts          wrong counts of words, for every list of words
+ *   struct fault        something that is put into a desk, and the number that is then due
+ *   PLACE               where a part of a desk stands, and its size
+ *   plan_faults         faults of a job and its points, for every call that takes them
+ *   faults              faults of each call
+ *   try_fault           puts a fault into a desk and makes a call
+ *   try_plan_faults     all faults of a plan, in every call that takes a job
+ *   try_faults          all faults of each call
+ *   try_page_lengths    the length of pages whose sizes are out of range, which is 0
  */
 #include "mukerihe.h"
 #include "mukerihe_bank.h"
+#include "trials.h"
 
-#include <stdio.h>
-#include <stdlib.h>
 #include <string.h>
 
-enum { T = 4, S = 6, R = 4, ROWS = 4, INNER = 3, COLUMNS = 4, HOSTS = 9, HEARD = 7, MASKS = 2, HEADER = 16, FILLING = 0xA5 };
+enum { T = 4, S = 6, R = 4, ROWS = 4, INNER = 3, COLUMNS = 4, HOSTS = 9, HEARD = 7, MASKS = 2, HEADER = 16, RANDOM = 64 };
 enum { A_BLOCK = ROWS * INNER, B_BLOCK = INNER * COLUMNS, C_BLOCK = ROWS * COLUMNS, MOST_SLICES = 5 };
-enum { A_MESSAGE = HEADER + 4 * A_BLOCK, B_MESSAGE = HEADER + 4 * B_BLOCK, ANSWER = HEADER + 4 * C_BLOCK };
+enum { A_MESSAGE = HEADER + 4 * A_BLOCK, B_MESSAGE = HEADER + 4 * B_BLOCK, ANSWER = HEADER + 4 * C_BLOCK, FILLING = 0xA5 };
 
 /* The inputs of all calls and their outputs. A job, fields and values have room for more words than they should be. */
 struct desk {
     uint32_t job[2 * MUKERIHE_JOB_WORDS], points[HOSTS], fields[2 * MUKERIHE_FIELD_WORDS], a[T * S], b[S * R];
-    uint32_t a_masks[MASKS * A_BLOCK], b_masks[MASKS * B_BLOCK], random[64], a_share[A_BLOCK], b_share[B_BLOCK];
+    uint32_t a_masks[MASKS * A_BLOCK], b_masks[MASKS * B_BLOCK], random[RANDOM], a_share[A_BLOCK], b_share[B_BLOCK];
     uint8_t a_message[A_MESSAGE], b_message[B_MESSAGE], answer[ANSWER];
     uint32_t modulus, rows, inner, columns, t, r, host, minute, element;
     int64_t value;
@@ -53,20 +69,6 @@ struct call {
 };
 
 static unsigned long tried;
-
-/* Ends the program: what is wrong, and with which call. */
-static void fail(const char *name, const char *what)
-{
-    fprintf(stderr, "%s: %s\n", name, what);
-    exit(1);
-}
-
-/* Ends the program unless a call is done. */
-static void must(const char *name, uint32_t number)
-{
-    if (number != MUKERIHE_DONE)
-        fail(name, "a fit call is refused");
-}
 
 /* A list of a desk, whole. */
 #define WHOLE(list) ((struct slice){(list), sizeof(list) / sizeof((list)[0])})
@@ -306,32 +308,55 @@ static void serve(struct desk *d, uint32_t host)
     must("answer", mukerihe_answer(LENT(WHOLE(d->a_message)), LENT(WHOLE(d->b_message)), LENT(WHOLE(d->answer)), &d->written));
 }
 
-/* A desk where every call is fit: seven hosts are heard, and the answer of the eighth lies there. */
-static void set_up(struct desk *d)
+/* Puts the matrices on a desk: B has A's elements from the last to the first. */
+static void put_matrices(struct desk *d)
+{
+    for (uint32_t i = 0; i < T * S; i++)
+        d->a[i] = d->b[S * R - 1 - i] = i * i % 257;
+}
+
+/* Puts random words on a desk, and masks from them. */
+static void put_masks(struct desk *d)
+{
+    for (uint32_t i = 0; i < RANDOM; i++)
+        d->random[i] = 2654435761u * (i + 1);
+    must("draw", mukerihe_draw(2, d->random, RANDOM, LENT(WHOLE(d->a_masks)), &d->used));
+    must("draw", mukerihe_draw(2, d->random + 24, RANDOM - 24, LENT(WHOLE(d->b_masks)), &d->used));
+}
+
+/* Puts the job, its points and the fields of a message on a desk. */
+static void put_words(struct desk *d)
 {
     static const uint32_t job[] = {2, T, S, R, 1, 2, 1, MASKS, MASKS, HOSTS, 1207, 480, 1200};
     static const uint32_t points[] = {11, 3, 58, 200, 7, 91, 30, 144, 19};
     static const uint32_t fields[] = {1, 2, 8, ROWS, INNER, 1207};
-    memset(d, FILLING, sizeof *d);
     memcpy(d->job, job, sizeof job);
     memcpy(d->points, points, sizeof points);
     memcpy(d->fields, fields, sizeof fields);
-    for (uint32_t i = 0; i < 64; i++)
-        d->random[i] = 2654435761u * (i + 1);
-    for (uint32_t i = 0; i < T * S; i++)
-        d->a[i] = d->b[S * R - 1 - i] = i * i % 257;
-    must("draw", mukerihe_draw(2, d->random, 64, LENT(WHOLE(d->a_masks)), &d->used));
-    must("draw", mukerihe_draw(2, d->random + 24, 40, LENT(WHOLE(d->b_masks)), &d->used));
+}
+
+/* Hears seven hosts. */
+static void hear(struct desk *d)
+{
     d->heard = 0;
-    d->minute = 480;
-    for (uint32_t host = 1; host <= HEARD + 1; host++) {
+    for (uint32_t host = 1; host <= HEARD; host++) {
         serve(d, host);
-        if (host <= HEARD)
-            must("arrive", mukerihe_arrive(job, 13, points, HOSTS, &d->heard, LENT(WHOLE(d->store)), LENT(WHOLE(d->answer)), 480,
-                &d->already));
+        must("arrive", mukerihe_arrive(d->job, 13, d->points, HOSTS, &d->heard, LENT(WHOLE(d->store)), LENT(WHOLE(d->answer)), 480,
+            &d->already));
     }
-    must("decode", mukerihe_decode(job, 13, points, HOSTS, d->heard, LENT(WHOLE(d->store)), LENT(WHOLE(d->table))));
-    d->modulus = 2;
+}
+
+/* A desk where every call is fit: seven hosts are heard, and the answer of the eighth lies there. */
+static void set_up(struct desk *d)
+{
+    memset(d, FILLING, sizeof *d);
+    put_words(d);
+    put_matrices(d);
+    put_masks(d);
+    hear(d);
+    serve(d, HEARD + 1);
+    must("decode", mukerihe_decode(d->job, 13, d->points, HOSTS, d->heard, LENT(WHOLE(d->store)), LENT(WHOLE(d->table))));
+    d->modulus = 2, d->minute = 480;
     d->rows = ROWS, d->inner = INNER, d->columns = COLUMNS, d->t = T, d->r = R;
     d->host = 8, d->element = 256, d->value = -128;
     d->page_length = mukerihe_page_length(T, R);
@@ -479,14 +504,35 @@ static void try_fault(const struct call *call, const struct fault *fault, const 
     try_one(call, &d, slices, fault->due);
 }
 
-/* All faults, those of a plan in every call that takes a job. */
-static void try_faults(const struct desk *ready)
+/* All faults of a plan, in every call that takes a job. */
+static void try_plan_faults(const struct desk *ready)
 {
     for (size_t i = 0; i < sizeof plan_faults / sizeof plan_faults[0]; i++)
         for (int k = 0; k < JOB_CALLS; k++)
             try_fault(job_calls[k], &plan_faults[i], ready);
+}
+
+/* All faults of a call of its own. */
+static void try_faults(const struct desk *ready)
+{
     for (size_t i = 0; i < sizeof faults / sizeof faults[0]; i++)
         try_fault(faults[i].call, &faults[i], ready);
+}
+
+/* The length of a page is 0 where a size is out of range, as rows, as columns and as both; at both ends of the range it is not. */
+static void try_page_lengths(void)
+{
+    static const uint32_t out_of_range[] = {0, 16385, UINT32_MAX}, in_range[] = {1, R, 16384};
+    for (int i = 0; i < 9; i++) {
+        uint32_t size = out_of_range[i / 3], other = in_range[i % 3];
+        if (mukerihe_page_length(size, other) != 0 || mukerihe_page_length(other, size) != 0)
+            fail("page_length", "a size is out of range, and it is not 0");
+        if (mukerihe_page_length(size, out_of_range[i % 3]) != 0)
+            fail("page_length", "both sizes are out of range, and it is not 0");
+        if (mukerihe_page_length(other, in_range[i / 3]) == 0)
+            fail("page_length", "both sizes are in range, and it is 0");
+        tried += 4;
+    }
 }
 
 /* Tries all. */
@@ -498,7 +544,9 @@ int main(void)
         try_empty(calls[i], &ready);
         try_counts(calls[i], &ready);
     }
+    try_plan_faults(&ready);
     try_faults(&ready);
+    try_page_lengths();
     printf("bank_trials: %lu calls, all as they should be\n", tried);
     return 0;
 }

@@ -1,6 +1,7 @@
 /* Buffers beside pages that nobody may touch: a read or a write past one ends the program, in whatever library it is made. (The
  * compiler's checks see what C code does, and not what the proved libraries do.)
  *
+ *   PAGE         the bytes of a page
  *   struct room  pages that may be touched, between two that may not
  *   room_for     a room for so many bytes
  *   placed       a buffer of a length, at the end of a room's pages or at their beginning

@@ -1,19 +1,23 @@
 /* What tests/bank_calls.c and tests/bank_jobs.c share: stored cases are read from standard input and outcomes written to standard
  * output. A word is 4 bytes, big-endian. Every list of a case has a buffer of its own beside a forbidden page.
  *
- *   struct list, struct bytes  elements or bytes with their count
- *   structs                    whether the wrappers that take structs are called, in place of the functions that take words
- *   cases                      how many cases were begun
- *   begin                      reads the arguments of the program
- *   next_head                  reads the head of a case; 0 at the end of the input
- *   list_in, bytes_in          a list in a room; by turns at the end of the room and at its beginning
- *   words_read, bytes_read     a list that is read from the input
- *   words_copied               a list with given words
- *   words_filled, bytes_filled an output: every byte is the filling
- *   put_word, put_words        words to the output
- *   put_output, put_bytes      an output up to its last element, or byte, that is not the filling
- *   untouched                  ends the program unless some bytes are all the filling
- *   job_of                     the struct of 13 words
+ *   FILLING                     each byte of an output before a call
+ *   struct list, struct bytes   elements or bytes with their count
+ *   structs                     whether the wrappers that take structs are called, in place of the functions that take words
+ *   cases                       how many cases were begun
+ *   fail                        ends the program
+ *   begin                       reads the arguments of the program
+ *   word_of                     the word of four bytes
+ *   fill_bytes, fill_words      reads bytes or words from the input
+ *   next_head                   reads the head of a case; 0 at the end of the input
+ *   list_in, bytes_in           a list in a room; by turns at the end of the room and at its beginning
+ *   words_read, bytes_read      a list that is read from the input
+ *   words_copied                a list with given words
+ *   words_filled, bytes_filled  an output: every byte is the filling
+ *   put_word, put_words         words to the output
+ *   put_output, put_bytes       an output up to its last element, or byte, that is not the filling
+ *   untouched                   ends the program unless some bytes are all the filling
+ *   job_of                      the struct of 13 words
  */
 #ifndef STORED_H
 #define STORED_H

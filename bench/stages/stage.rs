@@ -1,4 +1,7 @@
 //! One stage of a job, made once by a contestant and timed for both.
+//!
+//!   Stage    the stages
+//!   measure  times a stage
 
 use crate::calls::{Calls, Plain};
 use crate::library::Library;
@@ -60,6 +63,27 @@ fn arrive(calls: &impl Calls, work: &Work, heard: u64, room: &mut Room) -> Resul
     Ok(())
 }
 
+/// Makes the last host's share of A.
+fn share(calls: &impl Calls, work: &Work, room: &mut Room) -> Result<(), u32> {
+    let Work {
+        job,
+        points,
+        a,
+        a_masks,
+        ..
+    } = black_box(work);
+    let out = &mut room.shares[0];
+    calls.share(Matrix::A, job, points, job.hosts, a, a_masks, out)
+}
+
+/// Makes the last host's whole part.
+fn answer(calls: &impl Calls, room: &mut Room) -> Result<(), u32> {
+    let [a, b] = &room.messages;
+    let written = calls.answer(a, b, &mut room.answer_message)?;
+    assert_eq!(black_box(written), room.answer_message.len());
+    Ok(())
+}
+
 /// Makes a stage once, in the buffers of a job that has been run.
 fn make(stage: Stage, calls: &impl Calls, work: &Work, room: &mut Room) -> Result<(), u32> {
     let Work { job, points, .. } = black_box(work);
@@ -68,28 +92,12 @@ fn make(stage: Stage, calls: &impl Calls, work: &Work, room: &mut Room) -> Resul
         Stage::Plan => calls.plan(job, points).map(|values| {
             black_box(values);
         }),
-        Stage::Share => {
-            let out = &mut room.shares[0];
-            calls.share(
-                Matrix::A,
-                job,
-                points,
-                job.hosts,
-                &work.a,
-                &work.a_masks,
-                out,
-            )
-        }
+        Stage::Share => share(calls, work, room),
         Stage::Product => {
             let [a, b] = [0, 1].map(|i| &room.messages[i][16..]);
             calls.product_of_bytes(job.modulus, work.block, a, b, &mut room.answer_bytes)
         }
-        Stage::Answer => {
-            let [a, b] = &room.messages;
-            let written = calls.answer(a, b, &mut room.answer_message)?;
-            assert_eq!(black_box(written), room.answer_message.len());
-            Ok(())
-        }
+        Stage::Answer => answer(calls, room),
         Stage::Write => {
             let fields = header(job, 1, job.hosts, rows, inner);
             calls.write(&fields, &room.shares[0], &mut room.messages[0])

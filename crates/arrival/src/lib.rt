@@ -23,6 +23,7 @@ ghost use Rattle.arrival.specs.Arriving.{
 ghost use Rattle.arrival.specs.declared.Arrived.the-variants.{AlreadyIn, Refused};
 ghost use Rattle.arrival.specs.Contracts.{received, storeReceived};
 use message::Parsed;
+use message_header::ANSWER;
 use message_header::HEADER_BYTES;
 use message_header::Header;
 use plan::Job;
@@ -34,9 +35,6 @@ pub enum Arrived {
     AlreadyIn,
     Refused(u32),
 }
-
-// The kind of an answer's message.
-const ANSWER: u32 = 3;
 
 // Kind not 3, or job number, modulus, rows or columns not this job's.
 fn foreign_test(job: Job, rows: u32, columns: u32, h: Header) -> bool

@@ -35,6 +35,13 @@ pub enum Opened {
     Refused(u32),
 }
 
+// The kinds of a message.
+pub const A_SHARE: u32 = 1;
+
+pub const B_SHARE: u32 = 2;
+
+pub const ANSWER: u32 = 3;
+
 // "MDO" as one number.
 const MARK: u32 = 0x4D444F;
 

@@ -1,11 +1,12 @@
 -- A host's answer to two messages.
 --
 --   was-read, was-refused  what looking a message over tells of its tests
---   Paired          what the tests of two headers ask
+--   Paired          what is used of what the tests of two headers ask
 --   paired          they pass only where it holds
 --   answer-written  writing the answer's message is carried out
 --   length-answer   how many bytes it has
 --   headed-length, done  the header is put to the front of the output, and then the product of the payloads: this is that message
+--   answer-parts    the call is carried out only where both messages pass their tests, and both together
 --   first-refused, second-refused   a message is refused: so is the call, and it leaves what was there
 --   answered        both pass their tests: the call does what those of both headers tell
 use mathlib.Core.Path.{_≡_, refl, sym, ap, ap₂, _∙_}
@@ -23,7 +24,7 @@ use Rattle.algebra.proofs.Lists.{below-test}
 use Rattle.algebra.proofs.Grids.{length-grid, below-grid}
 use Rattle.refusal.specs.Chain.{Test, first, outcome, unlessRefused}
 use Rattle.refusal.specs.Limits.{anyOutside, sizesOutside, overBlock}
-use Rattle.refusal.proofs.Chains.{first-none, first-miss, first-clear, first-append, first-append-hit, unless-done, unless-refused}
+use Rattle.refusal.proofs.Chains.{first-none, first-miss, first-clear, first-append, first-append-clear, first-append-hit, unless-done, unless-refused}
 use Rattle.refusal.proofs.Limits.{in-range}
 use Rattle.field.specs.Modulus.{modulus}
 use Rattle.field.proofs.Moduli.{known-number}
@@ -188,6 +189,14 @@ module _ (a b : List ℕ) (clear-a : first (messageTests a) ≡ 0) (clear-b : fi
         ap₂ (λ (xs ys : List ℕ). xs ++ (part ++ ys)) front rest
         ∙ ap₂ (λ (xs : List ℕ) (i : ℕ). header (pairHeader g h) ++ (xs ++ drop i out)) body end
         ∙ sym (append-assoc (header (pairHeader g h)) (bytesOf block) _)
+
+pub answer-parts : (a b : List ℕ) (room : ℕ) → first (hostAnswerTests a b room) ≡ 0
+    → (first (messageTests a) ≡ 0) × (first (messageTests b) ≡ 0) × (first (pairTests (headerOf a) (headerOf b) room) ≡ 0)
+unfolding hostAnswerTests
+answer-parts a b room clear =
+    let one = first-append-clear (messageTests a) _ (message-numbered a) clear in
+    let two = first-append-clear (messageTests b) _ (message-numbered b) (one .1) in
+    (one .0, two .0, two .1)
 
 -- two messages, the output, and what stood at `written`
 module _ (a b out : List ℕ) (before : ℕ) where

@@ -12,6 +12,9 @@ ghost use Rattle.mukerihe.specs.Host.{hostTests, hostAfter};
 ghost use Rattle.mukerihe.specs.Answer.{pairHeader, pairTests, hostAnswer, hostAnswerTests, hostAnswerAfter};
 ghost use Rattle.mukerihe.specs.Contracts.{wholeElements};
 use message::Parsed;
+use message_header::A_SHARE;
+use message_header::ANSWER;
+use message_header::B_SHARE;
 use message_header::HEADER_BYTES;
 use message_header::Header;
 
@@ -125,13 +128,6 @@ pub extern "C" fn mukerihe_product(
     let mut block = [0u32; refusal::MOST_ELEMENTS];
     product_in(n, a, b, &mut left, &mut right, &mut block, out)
 }
-
-// The kinds of messages: an A share, a B share, an answer.
-const A_SHARE: u32 = 1;
-
-const B_SHARE: u32 = 2;
-
-const ANSWER: u32 = 3;
 
 // The numbers of the library's own: the messages are not an A share and a B share, or differ in modulus, in host or in job number,
 // or A's columns are not B's rows.

@@ -80,8 +80,8 @@ pub extern "C" fn mukerihe_plan(job: &[u32], points: &[u32], values: &mut [u32])
     ensures number { λ r. let words = now (job .entry) in
         ⌜ r ≡ first (counted 13 words (counted 5 (now (values .entry)) (planTests (jobOf words) (now (points .entry))))) ⌝ }
     ensures values { λ _. let words = now (job .entry) in let was = now (values .entry) in
-        ⌜ now (values .exit)
-        ≡ unlessRefused (counted 13 words (counted 5 was (planTests (jobOf words) (now (points .entry))))) (planValues (jobOf words)) was ⌝ }
+        let tests = planTests (jobOf words) (now (points .entry)) in
+        ⌜ now (values .exit) ≡ unlessRefused (counted 13 words (counted 5 was tests)) (planValues (jobOf words)) was ⌝ }
 {
     if (job.len() != JOB_WORDS) | (values.len() != PLAN_WORDS) {
         return COUNT;
@@ -112,7 +112,8 @@ pub extern "C" fn mukerihe_draw(
     ensures number { λ r. ⌜ r ≡ first (drawTests modulus (now (words .entry)) (length (now (out .entry)))) ⌝ }
     ensures masks { λ _. ⌜ now (out .exit) ≡ masksAfter modulus (now (words .entry)) (now (out .entry)) ⌝ }
     ensures used { λ _. let given = now (words .entry) in let n = length (now (out .entry)) in
-        ⌜ now (used .exit) ≡ unlessRefused (drawTests modulus given n) (Drawing·used (Modulus·modulus modulus) n given) (now (used .entry)) ⌝ }
+        let count = Drawing·used (Modulus·modulus modulus) n given in
+        ⌜ now (used .exit) ≡ unlessRefused (drawTests modulus given n) count (now (used .entry)) ⌝ }
 {
     let drawn = masks::draw_masks(modulus, words, out);
     match drawn {
@@ -204,7 +205,8 @@ pub extern "C" fn mukerihe_write(fields: &[u32], elements: &[u32], out: &mut [u8
 // Reads a message: its elements, and its 6 fields. It is refused by number, and then both stay as they were.
 #[no_mangle]
 pub extern "C" fn mukerihe_read(message: &[u8], elements: &mut [u32], fields: &mut [u32]) -> u32
-    ensures number { λ r. ⌜ r ≡ first (counted 6 (now (fields .entry)) (readTests (now (message .entry)) (length (now (elements .entry))))) ⌝ }
+    ensures number { λ r. let room = length (now (elements .entry)) in
+        ⌜ r ≡ first (counted 6 (now (fields .entry)) (readTests (now (message .entry)) room)) ⌝ }
     ensures elements { λ _. let was = now (elements .entry) in
         ⌜ now (elements .exit) ≡ ifCounted 6 (now (fields .entry)) (readInto (now (message .entry)) was) was ⌝ }
     ensures fields { λ _. let bytes = now (message .entry) in let was = now (fields .entry) in
@@ -241,8 +243,9 @@ pub extern "C" fn mukerihe_arrive(
     minute: u32,
     already: &mut u32,
 ) -> u32
-    ensures number { λ r. let words = now (job .entry) in let bytes = now (message .entry) in
-        ⌜ r ≡ first (counted 13 words (arrivalTests (jobOf words) (now (points .entry)) (now (heard .entry)) (now (store .entry)) bytes minute)) ⌝ }
+    ensures number { λ r. let words = now (job .entry) in let before = now (heard .entry) in
+        let tests = arrivalTests (jobOf words) (now (points .entry)) before (now (store .entry)) (now (message .entry)) minute in
+        ⌜ r ≡ first (counted 13 words tests) ⌝ }
     ensures heard { λ _. let words = now (job .entry) in let before = now (heard .entry) in
         let outcome = arrived (jobOf words) (now (points .entry)) before (now (store .entry)) (now (message .entry)) minute in
         ⌜ now (heard .exit) ≡ ifCounted 13 words (heardAfter before outcome) before ⌝ }

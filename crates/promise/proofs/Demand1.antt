@@ -9,7 +9,7 @@ use mathlib.Core.Path.{_≡_, refl, sym, ap, _∙_, subst}
 use mathlib.Core.Bool.{Bool, true, false, cond, not, true≢false}
 use mathlib.Core.Logic.{_↔_}
 use mathlib.Core.List.{List, [], _∷_, _++_}
-use Prim.Native.Nat.{ℕ, zero, suc, _<_, suc-le-suc}
+use Prim.Native.Nat.{ℕ, zero, suc, _+_, _*_, _<_, suc-le-suc}
 use native.Mathlib.Nat.{not-suc-le-zero, le-of-suc-le-suc, zero-lt-suc, suc-ne-zero}
 use lib.Dec.{T, eqb}
 use lib.ListN.{length}
@@ -26,8 +26,9 @@ use Rattle.share_side.specs.Sides.{matrixTests}
 use Rattle.share.specs.Sharing.{shareTests, shareAfter}
 use Rattle.product.specs.Product.{productTests, productAfter}
 use Rattle.mukerihe.specs.Host.{hostTests, hostAfter}
-use Rattle.mukerihe.specs.Answer.{pairTests, hostAnswerTests, hostAnswerAfter}
-use Rattle.message_header.specs.Header.{headerOf, headerTests, fieldTests}
+use Rattle.mukerihe.specs.Answer.{pairHeader, pairTests, hostAnswer, hostAnswerTests, hostAnswerAfter}
+use Rattle.mukerihe.proofs.Answers.{answer-parts, length-answer}
+use Rattle.message_header.specs.Header.{headerOf, elementCount, headerTests, fieldTests}
 use Rattle.message.specs.Format.{elements, writeTests, messageTests, readTests, written, readInto}
 use Rattle.message.proofs.Outcomes.{read-told}
 use Rattle.arrival.proofs.Outcomes.{arrived-by, number-by}
@@ -123,6 +124,11 @@ module _ (job : Job) (heard : ℕ) (store message : List ℕ) where
 after-plan : (job : Job) (points : List ℕ) (tests : List Test) → T (numbered tests) → T (numbered (planTests job points ++ tests))
 after-plan job points tests = numbered-append (planTests job points) tests (plan-numbered job points)
 
+-- how many bytes the answer of a host has
+answer-length : (a b : List ℕ) (room : ℕ) → first (hostAnswerTests a b room) ≡ 0 → length (hostAnswer a b) ≡ 16 + 4 * elementCount (pairHeader (headerOf a) (headerOf b))
+unfolding pairHeader elementCount
+answer-length a b room clear = let parts = answer-parts a b room clear in length-answer a b (parts .0) (parts .1) room (parts .2)
+
 pub demand-1 : Demand1
 unfolding drawTests masksAfter shareTests matrixTests shareAfter productTests productAfter hostTests hostAfter pairTests hostAnswerTests hostAnswerAfter fieldTests writeTests messageTests headerTests readTests written readInto stateTests answerTests minuteTests againTests arrivalTests entered storeEntered arrived storeAfter put next decodeTests tableTests tableAfter pageTests pageAfter numbered
 demand-1 = record {
@@ -133,7 +139,7 @@ demand-1 = record {
   share = λ m job points host xs ms out. called _ _ _ (after-plan job points _ tt) refl;
   product = λ n rows inner columns a b out. called _ _ _ tt refl;
   host = λ n rows inner columns a b out. called _ _ _ tt refl;
-  answer = λ a b out. called _ _ _ tt refl;
+  answer = λ a b out. (called _ _ _ tt refl, answer-length a b (length out));
   write = λ h xs out. called _ _ _ tt refl;
   read = λ message out.
       let is = read-told message (length out) in

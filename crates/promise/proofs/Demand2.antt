@@ -10,7 +10,8 @@ use Prim.Native.Nat.{ℕ, _+_, _*_, _/_, _%_, _^_, _<_, _≤_}
 use native.Mathlib.Nat.{mod-lt}
 use native.Mathlib.Omega.{arith}
 use lib.Arith.{digits-div, digits-mod}
-use lib.ListN.{length, getD, length-map}
+use lib.ListN.{length, getD, take, drop, length-map}
+use lib.Seq.{take-at}
 use Rattle.algebra.specs.Lists.{tab, grid, entry, AllBelow}
 use Rattle.algebra.specs.Modular.{⟨_⟩_≈_}
 use Rattle.algebra.specs.Polynomials.{ev, coefficient}
@@ -20,7 +21,7 @@ use Rattle.algebra.proofs.Grids.{length-grid, entry-grid, below-grid}
 use Rattle.algebra.proofs.Modular.{≈-trans, ≈-of-eq}
 use Rattle.algebra.proofs.Interpolation.{interpolates, recover}
 use Rattle.refusal.specs.Chain.{first}
-use Rattle.refusal.proofs.Chains.{first-clear, first-append-clear, unless-done}
+use Rattle.refusal.proofs.Chains.{first-clear, unless-done}
 use Rattle.field.specs.Modulus.{modulus}
 use Rattle.field.proofs.Moduli.{known-number}
 use Rattle.layout.specs.Exponents.{exponents}
@@ -36,14 +37,14 @@ use Rattle.message_bytes.specs.Bytes.{bytesOf, elementsOf}
 use Rattle.message_bytes.proofs.Bytes.{elements-of-bytes}
 use Rattle.mukerihe.specs.Host.{hostTests, hostProduct, hostAfter}
 use Rattle.message_bytes.proofs.Words.{number-of-four}
-use Rattle.message_header.specs.Header.{headerOf}
+use Rattle.message_header.specs.declared.Header.{Header}
+use Rattle.message_header.specs.Header.{headerOf, elementCount}
 use Rattle.message.specs.Format.{elements, messageTests}
 use Rattle.message.specs.RoundTrips.{ReadsBack}
-use Rattle.message.proofs.Tests.{message-numbered}
 use Rattle.message.proofs.Fields.{readable}
 use Rattle.message.proofs.RoundTrips.{reads-back, round-trips}
-use Rattle.mukerihe.specs.Answer.{pairHeader, pairTests, hostAnswer, hostAnswerTests}
-use Rattle.mukerihe.proofs.Answers.{answer-written}
+use Rattle.mukerihe.specs.Answer.{pairHeader, pairTests, hostAnswer, hostAnswerTests, hostAnswerAfter}
+use Rattle.mukerihe.proofs.Answers.{answer-written, answer-parts}
 use Rattle.decode.specs.Decoding.{answerEntry, chosen, tableEntry, blocks, tableOf, tableLength, decodeTests, tableAfter}
 use Rattle.decode.proofs.Outcomes.{known, told, chosen-are}
 use Rattle.decode.proofs.Chosen.{Chosen}
@@ -209,25 +210,39 @@ unfolding headerOf
 number-small message bytes long =
     omega (arith, number-of-four message 12, bytes 12 (omega arith), bytes 13 (omega arith), bytes 14 (omega arith), bytes 15 (omega arith))
 
-module _ (a b : List ℕ) (room : ℕ) (bytes : AllBelow 256 a) (clear : first (hostAnswerTests a b room) ≡ 0) where
-  -- each of the two messages passes its tests, and so do both together
-  parts : (first (messageTests a) ≡ 0) × (first (messageTests b) ≡ 0) × (first (pairTests (headerOf a) (headerOf b) room) ≡ 0)
-  unfolding hostAnswerTests
-  parts =
-      let one = first-append-clear (messageTests a) _ (message-numbered a) clear in
-      let two = first-append-clear (messageTests b) _ (message-numbered b) (one .1) in
-      (one .0, two .0, two .1)
+module _ (a b out : List ℕ) (bytes : AllBelow 256 a) (clear : first (hostAnswerTests a b (length out)) ≡ 0) where
+  -- the headers of the two messages
+  abbrev g : Header
+  g = headerOf a
 
-  back : ReadsBack (pairHeader (headerOf a) (headerOf b)) (productOf (modulus (headerOf a .modulus)) (headerOf a .rows) (headerOf a .columns) (headerOf b .columns) (elements a) (elements b))
+  abbrev h : Header
+  h = headerOf b
+
+  parts : (first (messageTests a) ≡ 0) × (first (messageTests b) ≡ 0) × (first (pairTests g h (length out)) ≡ 0)
+  parts = answer-parts a b (length out) clear
+
+  back : ReadsBack (pairHeader g h) (productOf (modulus (g .modulus)) (g .rows) (g .columns) (h .columns) (elements a) (elements b))
   unfolding pairHeader
   back =
       reads-back _ _ _ (number-small a bytes (readable a (parts .0) .head .long))
-      (answer-written a b (parts .0) (parts .1) room (parts .2) _ refl)
+      (answer-written a b (parts .0) (parts .1) (length out) (parts .2) _ refl)
 
-  answer : (first (messageTests (hostAnswer a b)) ≡ 0)
-      × Modulo (modulus (headerOf a .modulus)) (headerOf a .rows) (headerOf b .columns) (productEntry (headerOf a .columns) (headerOf b .columns) (elements a) (elements b)) (elements (hostAnswer a b))
+  -- the answer stands at the front of the output
+  front : take (16 + 4 * elementCount (pairHeader g h)) (hostAnswerAfter a b out) ≡ hostAnswer a b
+  unfolding hostAnswerAfter hostAnswer
+  front =
+      let n = 16 + 4 * elementCount (pairHeader g h) in
+      ap (take n) (unless-done _ _ out clear) ∙ take-at (hostAnswer a b) (drop (length (hostAnswer a b)) out) n (back .whole)
+
+  answer : let sent = take (16 + 4 * elementCount (pairHeader g h)) (hostAnswerAfter a b out) in
+      (first (messageTests sent) ≡ 0) × (headerOf sent ≡ pairHeader g h)
+      × Modulo (modulus (g .modulus)) (g .rows) (h .columns) (productEntry (g .columns) (h .columns) (elements a) (elements b)) (elements sent)
   unfolding hostAnswer productOf
-  answer = (back .accepted, modulo-grid _ _ _ _ (back .same-elements))
+  answer = (
+    ap (λ (m : List ℕ). first (messageTests m)) front ∙ back .accepted,
+    ap headerOf front ∙ back .same-header,
+    modulo-grid _ _ _ _ (ap elements front ∙ back .same-elements),
+  )
 
 pub demand-2 : Demand2
 unfolding shareAfter hostShare shareOf productAfter productOf product

@@ -4,7 +4,7 @@
 -- It is said of the definitions that the calls' contracts cite; a call returns its number, and 0 means carried out. "A garden heard
 -- a second time" gets 23 where its message differs from the first, and is "already in" where it does not (02, U1). A drawing of masks
 -- (02, U3) and a page (02, U6) are calls like the others. An arrival carries its minute (02, U7). A host's whole part, reading, the
--- product and writing, is one call of the library for C; that its two messages belong together has numbers of its own.
+-- product and writing, is one call of the host's library for C; that its two messages belong together has numbers of its own.
 --
 --   test tests i              == the test at i
 --   Judged tests n            == n is 0 exactly where no test holds; otherwise it is the number of the first that does
@@ -17,7 +17,7 @@ use mathlib.Core.Path.{_≡_}
 use mathlib.Core.Bool.{true, false, cond}
 use mathlib.Core.Logic.{_↔_}
 use mathlib.Core.List.{List, [], _∷_, _++_}
-use Prim.Native.Nat.{ℕ, _<_}
+use Prim.Native.Nat.{ℕ, _+_, _*_, _<_}
 use lib.ListN.{length, getD, drop}
 use Rattle.refusal.specs.Chain.{Test, first, Told}
 use Rattle.field.specs.Modulus.{modulus}
@@ -31,7 +31,7 @@ use Rattle.share.specs.Sharing.{hostShare, shareTests, shareAfter}
 use Rattle.product.specs.Product.{productOf, productTests, productAfter}
 use Rattle.message_header.specs.declared.Header.{Header}
 use Rattle.mukerihe.specs.Host.{hostTests, hostProduct, hostAfter}
-use Rattle.mukerihe.specs.Answer.{hostAnswer, hostAnswerTests, hostAnswerAfter}
+use Rattle.mukerihe.specs.Answer.{pairHeader, hostAnswer, hostAnswerTests, hostAnswerAfter}
 use Rattle.message_header.specs.Header.{headerOf, elementCount, fields}
 use Rattle.message.specs.Format.{messageOf, elements, writeTests, readTests, written, readAs, readInto}
 use Rattle.message.specs.Format.{told as Format·told}
@@ -75,9 +75,11 @@ pub record Demand1 : Type 0 where
   -- the product that a partner links into a C program, on bytes
   pub host : (n rows inner columns : ℕ) (a b out : List ℕ) → let tests = hostTests n rows inner columns a b (length out) in
       Obeys tests (first tests) (hostAfter n rows inner columns a b out) (hostProduct n rows inner columns a b) out
-  -- a host's whole part as one call, from two messages to the answer's; past the answer the output is untouched
+  -- a host's whole part as one call, from two messages to the answer's; past the answer the output is untouched, and how many bytes
+  -- the answer has is told
   pub answer : (a b out : List ℕ) → let tests = hostAnswerTests a b (length out) in
       Obeys tests (first tests) (hostAnswerAfter a b out) (hostAnswer a b ++ drop (length (hostAnswer a b)) out) out
+      × (first tests ≡ 0 → length (hostAnswer a b) ≡ 16 + 4 * elementCount (pairHeader (headerOf a) (headerOf b)))
   pub write : (h : Header) (xs out : List ℕ) → let tests = writeTests h xs (length out) in
       Obeys tests (first tests) (written h xs out) (messageOf h xs) out
   -- the fields are told; past rows times columns the output is untouched

@@ -11,7 +11,7 @@ use mathlib.Core.Path.{_≡_}
 use mathlib.Core.Bool.{true}
 use mathlib.Core.List.{List}
 use Prim.Native.Nat.{ℕ, _+_, _*_, _%_, _<_, _≤_}
-use lib.ListN.{length, getD}
+use lib.ListN.{length, getD, take}
 use Rattle.algebra.specs.Lists.{entry, AllBelow}
 use Rattle.algebra.specs.Modular.{⟨_⟩_≈_}
 use Rattle.algebra.specs.Polynomials.{ev}
@@ -27,10 +27,10 @@ use Rattle.share_side.specs.Sides.{side}
 use Rattle.share.specs.Sharing.{shareEntry, point, shareTests, shareAfter}
 use Rattle.product.specs.Product.{productEntry, productTests, productAfter}
 use Rattle.message_bytes.specs.Bytes.{elementsOf}
-use Rattle.message_header.specs.Header.{headerOf}
+use Rattle.message_header.specs.Header.{headerOf, elementCount}
 use Rattle.message.specs.Format.{elements, messageTests}
 use Rattle.mukerihe.specs.Host.{hostTests, hostAfter}
-use Rattle.mukerihe.specs.Answer.{hostAnswer, hostAnswerTests}
+use Rattle.mukerihe.specs.Answer.{pairHeader, hostAnswerTests, hostAnswerAfter}
 use Rattle.message.specs.RoundTrips.{RoundTrips}
 use Rattle.arrival_heard.specs.Heard.{isHeard}
 use Rattle.decode.specs.Decoding.{answerEntry, chosen, tableLength, decodeTests, tableAfter}
@@ -82,12 +82,12 @@ pub record Demand2 : Type 0 where
   pub host : (n rows inner columns : ℕ) (a b out : List ℕ) → first (hostTests n rows inner columns a b (length out)) ≡ 0
       → Modulo (modulus n) rows columns (productEntry inner columns (elementsOf (rows * inner) a) (elementsOf (inner * columns) b))
       (elementsOf (rows * columns) (hostAfter n rows inner columns a b out))
-  -- the answer's message is one that is read; a byte is below 256
-  pub answer : (a b : List ℕ) (room : ℕ) → AllBelow 256 a → first (hostAnswerTests a b room) ≡ 0
+  -- as many bytes of the output as the answer has are a message that is read; a byte is below 256
+  pub answer : (a b out : List ℕ) → AllBelow 256 a → first (hostAnswerTests a b (length out)) ≡ 0
       → let g = headerOf a in let h = headerOf b in
-      (first (messageTests (hostAnswer a b)) ≡ 0)
-      × Modulo (modulus (g .modulus)) (g .rows) (h .columns) (productEntry (g .columns) (h .columns) (elements a) (elements b))
-      (elements (hostAnswer a b))
+      let sent = take (16 + 4 * elementCount (pairHeader g h)) (hostAnswerAfter a b out) in
+      (first (messageTests sent) ≡ 0) × (headerOf sent ≡ pairHeader g h)
+      × Modulo (modulus (g .modulus)) (g .rows) (h .columns) (productEntry (g .columns) (h .columns) (elements a) (elements b)) (elements sent)
   -- "Decoding interpolates the answers of the K lowest-numbered hosts heard, and places the C(k,j) as the table."
   pub table : (job : Job) (points : List ℕ) (heard : ℕ) (store table : List ℕ)
       → first (decodeTests job points heard store (length table)) ≡ 0

@@ -9,17 +9,13 @@ use crate::rooms::share_of_b;
 use crate::rooms::size_a;
 use crate::rooms::size_b;
 use message::Parsed;
+use message_header::A_SHARE;
+use message_header::ANSWER;
+use message_header::B_SHARE;
 use message_header::Header;
 use plan::Job;
 use refusal::MOST_ELEMENTS;
 use words::least;
-
-// The kinds of a message.
-const SHARE_OF_A: u32 = 1;
-
-const SHARE_OF_B: u32 = 2;
-
-const ANSWER: u32 = 3;
 
 // The turn of a host: the job, the sizes of its blocks, the number of answers needed, the host's number, the minute of its
 // answer, and the hosts heard before.
@@ -73,7 +69,7 @@ fn send_shares(turn: Turn, shares: &[u32], pair: &mut [u32], message: &mut [u8])
     let b = share_of_b(shares, sizes, index);
     let middle = least(MOST_ELEMENTS, pair.len());
     let number = send(
-        header_of(SHARE_OF_A, turn, sizes.rows, sizes.inner),
+        header_of(A_SHARE, turn, sizes.rows, sizes.inner),
         a,
         message,
         &mut pair[..middle],
@@ -82,7 +78,7 @@ fn send_shares(turn: Turn, shares: &[u32], pair: &mut [u32], message: &mut [u8])
         return number;
     }
     send(
-        header_of(SHARE_OF_B, turn, sizes.inner, sizes.columns),
+        header_of(B_SHARE, turn, sizes.inner, sizes.columns),
         b,
         message,
         &mut pair[middle..],

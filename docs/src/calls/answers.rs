@@ -29,6 +29,7 @@ pub fn expected(random: &mut Random) -> Expected<Answering> {
         long_blocks(random),
         rooms(random),
         answer_limits(random),
+        answer_rooms(random),
         block_limits(random),
     ];
     groups.concat()
@@ -74,6 +75,14 @@ fn uniform(modulus: u32, [rows, inner, columns]: [u32; 3], a: u32, b: u32) -> An
 fn block(random: &mut Random, modulus: u32, [rows, inner, columns]: [u32; 3]) -> Answering {
     let fields = sized(rows, columns);
     drawn(random, Fields { modulus, ..fields }, inner)
+}
+
+/// A case with another length of the output.
+fn into(call: &Answering, room: usize) -> Answering {
+    Answering {
+        room,
+        ..call.clone()
+    }
 }
 
 /// 01, "Checked by hand": the shares of the three hosts; and the ends of the field.
@@ -131,12 +140,10 @@ fn random_fit(random: &mut Random) -> Expected<Answering> {
 fn fillings() -> Expected<Answering> {
     let mut calls = Vec::new();
     for (modulus, q) in primes() {
-        for (a, b) in [(0, 0), (q - 1, 0), (1, q - 1)] {
-            calls.push((uniform(modulus, [2, 3, 4], a, b), 0));
-        }
-        for inner in [1, 4, 5, 64] {
-            calls.push((uniform(modulus, [3, inner, 2], q - 1, q - 1), 0));
-        }
+        let few = |(a, b)| (uniform(modulus, [2, 3, 4], a, b), 0);
+        let many = |inner| (uniform(modulus, [3, inner, 2], q - 1, q - 1), 0);
+        calls.extend([(0, 0), (q - 1, 0), (1, q - 1)].map(few));
+        calls.extend([1, 4, 5, 64].map(many));
     }
     calls
 }
@@ -189,8 +196,7 @@ fn long_blocks(random: &mut Random) -> Expected<Answering> {
     ];
     let call = |(round, sizes)| {
         let call = block(random, modulus_in_turn(round), sizes);
-        let room = LONGEST;
-        (Answering { room, ..call }, 0)
+        (into(&call, LONGEST), 0)
     };
     (0..).zip(shapes).map(call).collect()
 }
@@ -201,20 +207,15 @@ fn rooms(random: &mut Random) -> Expected<Answering> {
     for sizes in [[1, 1, 1], [2, 3, 4], [64, 1, 64]] {
         let base = block(random, 3, sizes);
         let exact = base.room;
-        for room in [exact, exact + 1, exact + 4, 2 * exact, LONGEST] {
-            let call = base.clone();
-            calls.push((Answering { room, ..call }, 0));
-        }
-        for room in [0, 1, 15, HEADER, exact - 4, exact - 1] {
-            let call = base.clone();
-            calls.push((Answering { room, ..call }, 13));
-        }
+        let enough = [exact, exact + 1, exact + 4, 2 * exact, LONGEST];
+        let short = [0, 1, 15, HEADER, exact - 4, exact - 1];
+        calls.extend(enough.map(|room| (into(&base, room), 0)));
+        calls.extend(short.map(|room| (into(&base, room), 13)));
     }
     calls
 }
 
-/// Shares whose answer has 4096 elements or just fewer, into the longest output; just more and many more;
-/// and one of these into outputs of all sorts of lengths.
+/// Shares whose answer has 4096 elements or just fewer, into the longest output; just more and many more.
 fn answer_limits(random: &mut Random) -> Expected<Answering> {
     let lines = [
         ([64, 2, 64], 0),
@@ -231,18 +232,16 @@ fn answer_limits(random: &mut Random) -> Expected<Answering> {
         ([16, 1, 4096], 6),
         ([4096, 1, 4096], 6),
     ];
-    let mut calls = Vec::new();
-    for (sizes, number) in lines {
-        let call = block(random, 4, sizes);
-        let room = LONGEST;
-        calls.push((Answering { room, ..call }, number));
-    }
-    let call = block(random, 2, [64, 1, 65]);
-    for room in [0, 1, HEADER, HEADER + 4 * 4096, call.room - 1, call.room] {
-        let call = call.clone();
-        calls.push((Answering { room, ..call }, 6));
-    }
-    calls
+    let call = |(sizes, number)| (into(&block(random, 4, sizes), LONGEST), number);
+    lines.map(call).to_vec()
+}
+
+/// Shares whose answer has just more than 4096 elements, into outputs of all sorts of lengths.
+fn answer_rooms(random: &mut Random) -> Expected<Answering> {
+    let base = block(random, 2, [64, 1, 65]);
+    let exact = base.room;
+    let rooms = [0, 1, HEADER, HEADER + 4 * 4096, exact - 1, exact];
+    rooms.map(|room| (into(&base, room), 6)).to_vec()
 }
 
 /// Messages of over 4096 elements whose length is right: A's, B's and both; the answer is small or not.
@@ -254,10 +253,6 @@ fn block_limits(random: &mut Random) -> Expected<Answering> {
         [1, 1, 4097],
         [1, 4097, 1],
     ];
-    let call = |sizes| {
-        let call = block(random, 1, sizes);
-        let room = LONGEST;
-        (Answering { room, ..call }, 6)
-    };
+    let call = |sizes| (into(&block(random, 1, sizes), LONGEST), 6);
     shapes.map(call).to_vec()
 }
