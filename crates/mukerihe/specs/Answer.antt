@@ -1,11 +1,11 @@
--- A host's whole part as one call: both its messages are read, their shares multiplied, and the answer's message is written (01,
--- "Message, version 1" and "Exponents": an answer is A share times B share). That the two messages belong together, the sheet does
--- not ask: those tests have numbers of the library's own, from 1001 on.
+-- A host's whole part as one call: both its messages are looked over, their shares multiplied, and the answer's message is written
+-- (01, "Message, version 1" and "Exponents": an answer is A share times B share). That the two messages belong together, the sheet
+-- does not ask: those tests have numbers of the libraries' own, from 1001 on.
 -- g and h are the headers of messages a and b; the output has room for so many bytes.
 --
 --   pairHeader g h            == the header of their answer
---   pairTests g h room        == g and h are not those of one host's A share and B share: kinds, modulus, host, job number, and A's
---                                columns beside B's rows; then 6 and 13
+--   pairTests g h room        == the tests of both messages together: kinds, modulus, host, job number, A's columns beside B's
+--                                rows; then 6 and 13
 --   hostAnswer a b            == the answer's message
 --   hostAnswerTests a b room  == the tests of the call: those of A's message, those of B's, those of both together
 --   hostAnswerAfter a b out   == what the output then holds: past the answer it is untouched

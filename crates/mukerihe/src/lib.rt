@@ -129,7 +129,7 @@ pub extern "C" fn mukerihe_product(
     product_in(n, a, b, &mut left, &mut right, &mut block, out)
 }
 
-// The numbers of the library's own: the messages are not an A share and a B share, or differ in modulus, in host or in job number,
+// Numbers of the libraries' own: the messages are not an A share and a B share, or differ in modulus, in host or in job number,
 // or A's columns are not B's rows.
 const KINDS: u32 = 1001;
 

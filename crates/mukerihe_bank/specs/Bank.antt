@@ -1,5 +1,5 @@
 -- The bank's calls for C. A job and the fields of a message travel as words, with how many there are: 1002, a number of the
--- library's own, is told before all others where they are not so many.
+-- libraries' own, is told before all others where they are not so many.
 --
 --   jobOf words               == the job of 13 words
 --   headerOf words            == the header of 6 words, in the order of the bytes

@@ -33,7 +33,7 @@ const FIELD_WORDS: usize = 6;
 
 const PLAN_WORDS: usize = 5;
 
-// The number of the library's own: a job, fields or the values of a plan are not so many words.
+// A number of the libraries' own: a job, fields or the values of a plan are not so many words.
 const COUNT: u32 = 1002;
 
 // The job of 13 words.
@@ -125,6 +125,29 @@ pub extern "C" fn mukerihe_draw(
     }
 }
 
+// A host's share of a matrix.
+fn share_of(
+    matrix: Matrix,
+    job: &[u32],
+    points: &[u32],
+    host: u32,
+    elements: &[u32],
+    masks: &[u32],
+    out: &mut [u32],
+) -> u32
+    ensures { λ r. let words = now (job .entry) in let xs = now (elements .entry) in let ms = now (masks .entry) in
+        let tests = shareTests matrix (jobOf words) (now (points .entry)) host xs ms (length (now (out .entry))) in
+        ⌜ r ≡ first (counted 13 words tests) ⌝ }
+    ensures { λ _. let words = now (job .entry) in let xs = now (elements .entry) in let ms = now (masks .entry) in
+        let was = now (out .entry) in
+        ⌜ now (out .exit) ≡ ifCounted 13 words (shareAfter matrix (jobOf words) (now (points .entry)) host xs ms was) was ⌝ }
+{
+    if job.len() != JOB_WORDS {
+        return COUNT;
+    }
+    share::share(matrix, job_of(job), points, host, elements, masks, out)
+}
+
 // A host's share of A.
 #[no_mangle]
 pub extern "C" fn mukerihe_share_a(
@@ -136,15 +159,13 @@ pub extern "C" fn mukerihe_share_a(
     out: &mut [u32],
 ) -> u32
     ensures number { λ r. let words = now (job .entry) in let xs = now (elements .entry) in let ms = now (masks .entry) in
-        ⌜ r ≡ first (counted 13 words (shareTests Matrix·A (jobOf words) (now (points .entry)) host xs ms (length (now (out .entry))))) ⌝ }
+        let tests = shareTests Matrix·A (jobOf words) (now (points .entry)) host xs ms (length (now (out .entry))) in
+        ⌜ r ≡ first (counted 13 words tests) ⌝ }
     ensures block { λ _. let words = now (job .entry) in let xs = now (elements .entry) in let ms = now (masks .entry) in
         let was = now (out .entry) in
         ⌜ now (out .exit) ≡ ifCounted 13 words (shareAfter Matrix·A (jobOf words) (now (points .entry)) host xs ms was) was ⌝ }
 {
-    if job.len() != JOB_WORDS {
-        return COUNT;
-    }
-    share::share(Matrix::A, job_of(job), points, host, elements, masks, out)
+    share_of(Matrix::A, job, points, host, elements, masks, out)
 }
 
 // A host's share of B.
@@ -158,15 +179,13 @@ pub extern "C" fn mukerihe_share_b(
     out: &mut [u32],
 ) -> u32
     ensures number { λ r. let words = now (job .entry) in let xs = now (elements .entry) in let ms = now (masks .entry) in
-        ⌜ r ≡ first (counted 13 words (shareTests Matrix·B (jobOf words) (now (points .entry)) host xs ms (length (now (out .entry))))) ⌝ }
+        let tests = shareTests Matrix·B (jobOf words) (now (points .entry)) host xs ms (length (now (out .entry))) in
+        ⌜ r ≡ first (counted 13 words tests) ⌝ }
     ensures block { λ _. let words = now (job .entry) in let xs = now (elements .entry) in let ms = now (masks .entry) in
         let was = now (out .entry) in
         ⌜ now (out .exit) ≡ ifCounted 13 words (shareAfter Matrix·B (jobOf words) (now (points .entry)) host xs ms was) was ⌝ }
 {
-    if job.len() != JOB_WORDS {
-        return COUNT;
-    }
-    share::share(Matrix::B, job_of(job), points, host, elements, masks, out)
+    share_of(Matrix::B, job, points, host, elements, masks, out)
 }
 
 // A product on elements: rows by inner times inner by columns.
