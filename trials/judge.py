@@ -5,7 +5,7 @@
     trials/judge.py places ci|trials LOGS    prints the lines of the list as the logs have them: read the logs before they go in
 
 LOGS has a folder for each crate, and in it one for each edit, LABEL/.log: target/must-fail after `rt ci` or `rt must-fail`,
-target/trials after `trials/edits.sh`. The set ci has the edits of the crates' must-fail folders, the set trials those of
+target/trials after `trials/edits.py`. The set ci has the edits of the crates' must-fail folders, the set trials those of
 trials/edits. It prints one line and ends with 0 where all is well; else it names each edit with what is wrong, and ends with 1.
 """
 import re

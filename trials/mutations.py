@@ -11,9 +11,11 @@ printed with its line; docs/DECISIONS.md says why each of them has the same mean
 import hashlib
 import os
 import re
-import subprocess
 import sys
 import tempfile
+from pathlib import Path
+
+from edits import REFUSED, SURVIVED, UNFIT, tried
 
 ROOT = os.path.dirname(os.path.dirname(os.path.abspath(__file__)))
 
@@ -94,15 +96,11 @@ def main():
     count = int(words.pop(0)) if words and words[0].isdigit() else 8
     with tempfile.TemporaryDirectory() as folder:
         made = write_edits(folder, count, words or list(libraries()))
-        run = subprocess.run([os.path.join(ROOT, "trials", "edits.sh"), folder], capture_output=True, text=True)
-    refused = re.findall(r"must-fail (\S+): refused", run.stdout)
-    survived = re.findall(r"must-fail (\S+): NOT REFUSED", run.stdout)
-    rejected = re.findall(r"must-fail (\S+): BAD EDIT", run.stdout)
-    print(f"{len(refused) + len(survived)} changes tried, {len(refused)} refused, {len(survived)} survived; {len(rejected)} were no program")
+        verdicts = tried(Path(folder))
+    refused, survived, unfit = ([name for name, verdict in verdicts.items() if verdict == kind] for kind in (REFUSED, SURVIVED, UNFIT))
+    print(f"{len(refused) + len(survived)} changes tried, {len(refused)} refused, {len(survived)} survived; {len(unfit)} were no program")
     for name in survived:
         print(f"survived: {name}\n    {made[name][0]}\n    {made[name][1]}")
-    if len(refused) + len(survived) + len(rejected) != len(made):
-        sys.exit(f"only {len(refused) + len(survived) + len(rejected)} of {len(made)} were tried:\n" + run.stdout[-2000:] + run.stderr[-2000:])
 
 
 if __name__ == "__main__":

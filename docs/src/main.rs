@@ -12,11 +12,13 @@
 //!   jobs      the subcommand `jobs`: arrivals and decodings, alone and in whole jobs
 //!   texts     the subcommand `texts`: whole jobs as plain texts
 //!   drawings  the subcommand `drawings`: masks to draw as plain texts
+//!   command   the subcommand `command`: jobs for the command `mukerihe`, as files
 //!
 //! The folder plain is no part of it: that is the plain Rust program of the benchmarks.
 
 mod calls;
 mod cases;
+mod command;
 mod drawings;
 mod jobs;
 mod lister;
@@ -33,9 +35,10 @@ fn main() {
         ["jobs", stdin_file, stdout_file] => jobs::write_files(stdin_file, stdout_file),
         ["texts", folder] => texts::write_folder(folder),
         ["drawings", folder] => drawings::write_folder(folder),
+        ["command", folder] => command::write_folder(folder),
         _ => {
             eprintln!("usage: reference lister|calls|jobs STDIN_FILE STDOUT_FILE");
-            eprintln!("       reference texts|drawings FOLDER");
+            eprintln!("       reference texts|drawings|command FOLDER");
             std::process::exit(2);
         }
     }

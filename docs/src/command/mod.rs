@@ -1,0 +1,54 @@
+//! The subcommand `command`: random jobs for the command `mukerihe`, as files, with what is due.
+//!
+//!   matrix  matrices of whole numbers with names, and tables as text
+//!   case    a job with its tables, options and random words, and what is due
+//!
+//! Each job has a folder NNN: `job`, `a` and `b`, the files that `share` reads; `words`, random words;
+//! `share`, its options, and `decode`, those of `decode`, a word a line; `needed`, K; `send`, the messages
+//! that are due; `table`, the table that is due; and `page`, its page, where no entry is below 0.
+
+mod case;
+mod matrix;
+
+use std::collections::BTreeMap;
+
+use crate::sheet::page_check;
+use crate::sheet::plan_check;
+use crate::sheet::random::Random;
+use case::Case;
+
+/// How many jobs there are.
+const JOBS: u32 = 66;
+
+/// The kinds of jobs, each with the least count of its jobs.
+#[rustfmt::skip]
+const KINDS: [(&str, u32); 19] = [
+    ("entries as remainders", 38), ("entries as they are", 28), ("hosts", 13), ("layout 1", 24),
+    ("layout 2", 24), ("layout 3", 18), ("names_a both", 19), ("names_a columns", 16),
+    ("names_a none", 20), ("names_a rows", 11), ("names_b both", 13), ("names_b columns", 15),
+    ("names_b none", 25), ("names_b rows", 13), ("no window", 38), ("page", 50), ("signed", 18),
+    ("transposed", 18), ("window", 28),
+];
+
+/// Checks the program, then writes all jobs to a folder. Panics unless there are so many of each kind.
+pub fn write_folder(folder: &str) {
+    plan_check::run();
+    page_check::run();
+    let random = &mut Random::new(2037);
+    let mut counts: BTreeMap<String, u32> = BTreeMap::new();
+    for round in 0..JOBS {
+        let case = Case::drawn(random, round);
+        case.write(random, &format!("{folder}/{round:03}"));
+        for kind in case.kinds() {
+            *counts.entry(kind).or_default() += 1;
+        }
+    }
+    for (kind, count) in &counts {
+        println!("{kind}: {count}");
+    }
+    let names = KINDS.iter().map(|(kind, _)| kind);
+    assert!(counts.keys().eq(names), "other kinds");
+    for (kind, least) in KINDS {
+        assert!(counts[kind] >= least, "{kind}: not {least} jobs");
+    }
+}

@@ -1,0 +1,90 @@
+#!/usr/bin/env bash
+# Files: random words from a file, inputs that are no regular files, outputs that are there, outputs that cannot be written.
+source ./common.sh
+
+ends 0 "${share[@]}" one
+answer one answers
+seven=(answers/0[1-7].mdo)
+head -c 4000 /dev/urandom >words
+ends 0 share --words words "${share[@]:1}" words1
+says 'words: used, and now words.spent; destroy them'
+[ ! -e words ] && [ -e words.spent ] || wrong "the words are not spent"
+ends 1 share --words words.spent "${share[@]:1}" words2
+ends 1 share --words words "${share[@]:1}" words2
+says 'these words were spent'
+head -c 20 /dev/urandom >few
+ends 1 share --words few "${share[@]:1}" words2
+says 'refused with 27'
+head -c 21 /dev/urandom >few
+ends 1 share --words few "${share[@]:1}" words2
+says 'expected words of 4 bytes each'
+[ -e few ] && [ ! -e words2 ] || wrong "few words are spent"
+ln -s few link
+ends 3 share --words link "${share[@]:1}" words2
+section "words from a file"
+
+# A pipe, a folder, devices, nothing, and a link to nothing are no inputs; a link to a table is one.
+mkfifo pipe
+mkdir folder
+ln -s counts.tsv link.tsv
+ln -s nowhere dangling
+for input in pipe folder /dev/zero /dev/full missing dangling; do
+    ends 3 plan "$input"
+    ends 3 share --transpose-b kinship.job "$input" counts.tsv none
+    ends 3 share --transpose-b kinship.job counts.tsv "$input" none
+    ends 3 multiply "$input" one/send/01/*.b.mdo none
+    ends 3 show "$input"
+    ends 3 heard "$input" answers/01.mdo
+    ends 3 decode one none "$input"
+    ends 3 share --words "$input" "${share[@]:1}" none
+done
+ends 0 share --transpose-b kinship.job link.tsv counts.tsv linked
+section "inputs"
+
+# Nothing is overwritten and no link is followed.
+for output in one counts.tsv pipe folder dangling; do
+    ends 3 "${share[@]}" "$output"
+    says 'is there already; nothing is overwritten'
+    ends 3 decode one "$output" "${seven[@]}"
+    ends 3 decode --page "$output" one none "${seven[@]}"
+    ends 3 multiply one/send/01/*.a.mdo one/send/01/*.b.mdo "$output"
+done
+ends 3 "${share[@]}" missing/folder
+ends 3 "${share[@]}" /
+ends 3 "${share[@]}" ..
+ends 3 "${share[@]}" ''
+[ ! -e none ] && [ ! -e nowhere ] || wrong "something was made"
+odd=$(printf 'odd\377\033name')
+cp counts.tsv "$odd"
+ends 0 share --transpose-b kinship.job "$odd" counts.tsv "f$odd"
+says 'fodd\xff\u{1b}name'
+section "outputs"
+
+# Standard output closed or full, and standard error closed.
+# Without standard output a run ends with 3 and makes nothing: untold ARGUMENT ..
+untold() {
+    "$MUKERIHE" "$@" >&- 2>said
+    [ $? -eq 3 ] || wrong "standard output closed: mukerihe $*"
+    "$MUKERIHE" "$@" >/dev/full 2>said
+    [ $? -eq 3 ] || wrong "standard output full: mukerihe $*"
+    [ ! -e made ] || wrong "made though standard output is closed or full: mukerihe $*"
+    tried=$((tried + 2))
+}
+untold help
+untold plan kinship.job
+untold show answers/01.mdo
+untold "${share[@]}" made
+untold multiply one/send/01/*.a.mdo one/send/01/*.b.mdo made
+untold heard one "${seven[@]}"
+untold decode one made "${seven[@]}"
+"$MUKERIHE" "${share[@]}" made 2>&- >said || wrong "standard error closed"
+mkfifo unread
+"$MUKERIHE" help >unread 2>said &
+exec 9<unread
+exec 9<&-
+wait $!
+status=$?
+[ $status -eq 3 ] || [ $status -eq 0 ] || wrong "a pipe that nobody reads ends with $status"
+tried=$((tried + 2))
+nothing_unfinished "after all"
+section "standard output and error"
