@@ -21,7 +21,7 @@ root = $(DESTDIR)$(PREFIX)
 
 # The libraries are proved from these; rt finds out which of them have changed.
 proved := crates.txt $(shell find crates -name '*.rt' -o -name '*.antt')
-sources := cli/Cargo.toml cli/Cargo.lock cli/build.rs $(wildcard cli/src/*.rs)
+sources := include/mukerihe.rs cli/Cargo.toml cli/Cargo.lock cli/build.rs $(wildcard cli/src/*.rs)
 
 .PHONY: all demo check install uninstall
 .NOTPARALLEL:
@@ -51,11 +51,11 @@ check:
 install: $(command)
 	$(INSTALL) -d $(root)/bin $(root)/include $(root)/lib $(root)/share/man/man1
 	$(INSTALL) -m 755 $(command) $(root)/bin/mukerihe
-	$(INSTALL) -m 644 include/mukerihe.h include/mukerihe_bank.h $(root)/include
+	$(INSTALL) -m 644 include/mukerihe.h include/mukerihe_bank.h include/mukerihe.rs $(root)/include
 	$(INSTALL) -m 644 $(host) $(bank) $(root)/lib
 	$(INSTALL) -m 644 docs/mukerihe.1 $(root)/share/man/man1/mukerihe.1
 
 uninstall:
 	rm -f $(root)/bin/mukerihe $(root)/share/man/man1/mukerihe.1
-	rm -f $(root)/include/mukerihe.h $(root)/include/mukerihe_bank.h
+	rm -f $(root)/include/mukerihe.h $(root)/include/mukerihe_bank.h $(root)/include/mukerihe.rs
 	rm -f $(root)/lib/libmukerihe.a $(root)/lib/libmukerihe_bank.a

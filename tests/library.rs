@@ -13,21 +13,11 @@ mod random;
 
 use random::Random;
 
-extern "C" {
-    /// The product, one of the library's two functions (include/mukerihe.h).
-    fn mukerihe_product(
-        modulus: u32,
-        rows: u32,
-        inner: u32,
-        columns: u32,
-        a: *const u8,
-        a_length: usize,
-        b: *const u8,
-        b_length: usize,
-        out: *mut u8,
-        out_length: usize,
-    ) -> u32;
-}
+/// The library's functions, of which the product is tried here.
+#[path = "../include/mukerihe.rs"]
+mod libraries;
+
+use libraries::mukerihe_product;
 
 /// How many calls are made.
 const CALLS: u32 = 6000;

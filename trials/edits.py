@@ -27,6 +27,11 @@ REFUSED, SURVIVED, UNFIT = "refused", "NOT REFUSED", "BAD EDIT"
 LINE = re.compile(r"^(file|old|new): ?(.*)$")
 
 
+def copy(source, folder):
+    """Copies a folder, or a file, to a place that is not there yet."""
+    subprocess.run(["cp", "-R", source, folder], check=True)
+
+
 def changed(crate, edit):
     """Puts an edit into the files of a crate; what is wrong with the edit, if something is."""
     name, old, pairs = "", "", 0
@@ -61,9 +66,10 @@ class Rooms:
         for i in range(self.count):
             room = folder / f"room{i}"
             room.mkdir()
-            shutil.copy(ROOT / "crates.txt", room)
-            shutil.copytree(ROOT / "crates", room / "crates")
-            shutil.copytree(ROOT / "target", room / "target", ignore=shutil.ignore_patterns("trials", "must-fail", "inc"))
+            for part in ("crates.txt", "crates", "target"):
+                copy(ROOT / part, room / part)
+            shutil.rmtree(room / "target" / "inc", ignore_errors=True)
+            (room / "target" / "inc").mkdir()
             self.free.put(room)
         with ThreadPoolExecutor(self.count) as pool:
             list(pool.map(self.first_check, crates))
@@ -86,11 +92,11 @@ class Rooms:
         """Tries an edit, prints what becomes of it, and keeps its log."""
         crate, label, began = edit.parent.name, edit.stem, time.monotonic()
         room = self.free.get()
-        shutil.copytree(self.kept / crate, room / "target" / "inc" / crate)
+        copy(self.kept / crate, room / "target" / "inc" / crate)
         verdict, more = self.verdict(room, crate, edit)
         shutil.rmtree(room / "target" / "inc" / crate)
         shutil.rmtree(room / "crates" / crate)
-        shutil.copytree(ROOT / "crates" / crate, room / "crates" / crate)
+        copy(ROOT / "crates" / crate, room / "crates" / crate)
         self.free.put(room)
         print(f"edits: {crate}/{label}: {verdict}{more} ({time.monotonic() - began:.1f} s)", flush=True)
         return f"{crate}/{label}", verdict
@@ -103,7 +109,7 @@ class Rooms:
         status, said = self.check(room, crate)
         log = LOGS / crate / edit.stem / ".log"
         log.parent.mkdir(parents=True)
-        log.write_bytes(said)
+        log.write_bytes(said.replace(bytes(room / "crates" / crate), bytes(log.parent)))
         if status == 1 and re.search(rb"^logic=not-proved", said, re.M):
             return REFUSED, ""
         if status == 0:

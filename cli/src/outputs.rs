@@ -65,11 +65,10 @@ pub fn place_of(path: &Path) -> Done<(PathBuf, &OsStr)> {
     Ok((folder.to_path_buf(), name))
 }
 
-/// Renames without replacing where the file system has no call for it: a folder over an empty one
-/// that is made first, a file by a second name.
+/// Renames where the file system has no call that never replaces: a folder replaces nothing but an
+/// empty folder, and a file gets its new name as a second one.
 fn rename_in_steps(old: &Path, new: &Path) -> io::Result<()> {
     if fs::symlink_metadata(old)?.is_dir() {
-        DirBuilder::new().mode(0o700).create(new)?;
         return fs::rename(old, new);
     }
     fs::hard_link(old, new)?;

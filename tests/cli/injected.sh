@@ -114,18 +114,24 @@ for run in "share some.job a b stepped" "decode one stepped answers/01.mdo answe
     rm -r stepped
 done
 
-# A name that is taken while the command is at work: it waits at its first sync.
-strace -o trace -e 'inject=fsync:delay_enter=900000:when=1' "$MUKERIHE" decode one raced answers/* >said 2>&1 &
-one=$!
-strace -o trace2 -e 'inject=fsync:delay_enter=900000:when=1' "$MUKERIHE" share some.job a b racedfolder >said2 2>&1 &
-other=$!
-sleep 0.4
-echo mine >raced
-mkdir racedfolder
-wait $one
-[ $? -eq 3 ] && [ "$(cat raced)" = mine ] || wrong "a file that came meanwhile"
-wait $other
-[ $? -eq 3 ] && [ -z "$(ls racedfolder)" ] || wrong "a folder that came meanwhile"
-nothing_unfinished "names that came meanwhile"
-tried=$((tried + 2))
+# A name that is taken while the command is at work: it waits at its first sync. With and without such a call.
+for call in fsync renameat2; do
+    delayed=(-e 'inject=fsync:delay_enter=900000:when=1')
+    [ $call = fsync ] || delayed+=(-e "inject=$call:error=EINVAL")
+    strace -o trace "${delayed[@]}" "$MUKERIHE" decode one raced answers/* >said 2>&1 &
+    one=$!
+    strace -o trace2 "${delayed[@]}" "$MUKERIHE" share some.job a b racedfolder >said2 2>&1 &
+    other=$!
+    sleep 0.4
+    echo mine >raced
+    mkdir racedfolder
+    echo mine >racedfolder/mine
+    wait $one
+    [ $? -eq 3 ] && [ "$(cat raced)" = mine ] || wrong "a file that came meanwhile"
+    wait $other
+    [ $? -eq 3 ] && [ "$(ls racedfolder)" = mine ] || wrong "a folder that came meanwhile"
+    nothing_unfinished "names that came meanwhile"
+    rm -r raced racedfolder
+    tried=$((tried + 2))
+done
 section "nothing replaced"
