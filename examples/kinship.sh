@@ -10,10 +10,13 @@
 #     01 user@machine.of.garden.one
 #     02 user@machine.of.garden.two
 #
-# and go over its pairs, host i's files to machine i and to no other:
+# and go over its pairs, host i's files to machine i and to no other, in a folder of their own for each job:
 #
-#     at() { scp -r "kinship/send/$1" "$2:" && ssh "$2" "cd $1 && mukerihe multiply *.a.mdo *.b.mdo answer.mdo" &&
-#            scp "$2:$1/answer.mdo" "answers/$1.mdo"; }
+#     at() {
+#         ssh "$2" mkdir -m 700 kinship && scp kinship/send/"$1"/*.mdo "$2:kinship" &&
+#             ssh "$2" "cd kinship && mukerihe multiply *.a.mdo *.b.mdo answer.mdo && rm *.a.mdo *.b.mdo" &&
+#             scp "$2:kinship/answer.mdo" "answers/$1.mdo"
+#     }
 #     export -f at
 #     parallel --link at ::: $(cut -d ' ' -f 1 machines) ::: $(cut -d ' ' -f 2 machines)
 #

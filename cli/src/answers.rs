@@ -7,7 +7,7 @@
 //!   Arrivals   the answers taken so far
 //!   Decoded    a table, and the hosts from whose answers it is decoded
 
-use crate::arguments::{self, Form, Item};
+use crate::arguments::{self, Item, Usage};
 use crate::fault::{no_file, refused, too_few, Done, Fault};
 use crate::files;
 use crate::job::{count, Job, Plan};
@@ -49,7 +49,7 @@ pub struct Given {
 
 /// Reads the arguments; so many operands come before the answers. A minute holds for the answers
 /// after it.
-pub fn given(arguments: Vec<OsString>, before: usize, form: &Form) -> Done<Given> {
+pub fn given(arguments: Vec<OsString>, before: usize, usage: &Usage) -> Done<Given> {
     let (operands, answers) = (Vec::new(), Vec::new());
     let mut given = Given {
         operands,
@@ -58,7 +58,7 @@ pub fn given(arguments: Vec<OsString>, before: usize, form: &Form) -> Done<Given
         page: None,
     };
     let mut minute = None;
-    for item in arguments::items(arguments, form)? {
+    for item in arguments::items(arguments, usage)? {
         match item {
             Item::Operand(operand) if given.operands.len() < before => given.operands.push(operand),
             Item::Operand(operand) => given.answers.push(Answer {
@@ -66,11 +66,11 @@ pub fn given(arguments: Vec<OsString>, before: usize, form: &Form) -> Done<Given
                 minute,
             }),
             Item::Value("--minute", value) => {
-                minute = Some(arguments::number("--minute", &value, form)?);
+                minute = Some(arguments::number("--minute", &value, usage)?);
                 given.minuted = true;
             }
             Item::Value(_, value) if given.page.is_none() => given.page = Some(value.into()),
-            Item::Value(option, _) => return Err(form.fault(&format!("{option} is given twice"))),
+            Item::Value(option, _) => return Err(usage.fault(&format!("{option} is given twice"))),
             Item::Flag(_) => {}
         }
     }
@@ -79,18 +79,18 @@ pub fn given(arguments: Vec<OsString>, before: usize, form: &Form) -> Done<Given
 
 impl Given {
     /// Where the job has a window each answer has a minute, and elsewhere none is given.
-    pub fn must_fit(&self, job: &Job, form: &Form) -> Done<()> {
+    pub fn must_fit(&self, job: &Job, usage: &Usage) -> Done<()> {
         let without = self.answers.iter().any(|answer| answer.minute.is_none());
         match job.window {
             Some([opening, closing]) if without => {
                 let last = closing.saturating_sub(1);
                 let why = format!("the job has a window, minute {opening} to {last}");
                 let need = "--minute N is needed before the first answer";
-                Err(form.fault(&format!("{why}: {need}")))
+                Err(usage.fault(&format!("{why}: {need}")))
             }
             None if self.minuted => {
                 let why = "the job has no window, so --minute is not taken";
-                Err(form.fault(why))
+                Err(usage.fault(why))
             }
             _ => Ok(()),
         }

@@ -1,6 +1,6 @@
 //! The command's arguments, as bytes: options and operands in the order given.
 //!
-//!   Form      what a command takes
+//!   Usage     what a command takes
 //!   Item      an option, an option with its value, or an operand
 //!   items     the items of a command's arguments
 //!   operands  the operands of a command without options
@@ -13,8 +13,8 @@ use std::ffi::{OsStr, OsString};
 use std::os::unix::ffi::OsStrExt;
 
 /// What a command takes: how it is used, its options, and those that have a value.
-pub struct Form {
-    pub usage: &'static str,
+pub struct Usage {
+    pub text: &'static str,
     pub flags: &'static [&'static str],
     pub valued: &'static [&'static str],
 }
@@ -26,10 +26,10 @@ pub enum Item {
     Operand(OsString),
 }
 
-impl Form {
+impl Usage {
     /// A wrong use, with how it should be.
     pub fn fault(&self, why: &str) -> Fault {
-        wrong_use(format!("{why}\nusage: {}", self.usage))
+        wrong_use(format!("{why}\nusage: {}", self.text))
     }
 
     /// The option that an argument names, with the value that stands in the same argument after `=`
@@ -52,7 +52,7 @@ impl Form {
 }
 
 /// The items of a command's arguments. `--` ends the options, and `-` alone is an operand.
-pub fn items(given: Vec<OsString>, form: &Form) -> Done<Vec<Item>> {
+pub fn items(given: Vec<OsString>, usage: &Usage) -> Done<Vec<Item>> {
     let mut items = Vec::new();
     let mut given = given.into_iter();
     let mut ended = false;
@@ -63,35 +63,35 @@ pub fn items(given: Vec<OsString>, form: &Form) -> Done<Vec<Item>> {
         } else if bytes == b"--" {
             ended = true;
         } else {
-            items.push(form.option(&argument, &mut given)?);
+            items.push(usage.option(&argument, &mut given)?);
         }
     }
     Ok(items)
 }
 
 /// The operands, where there must be so many.
-pub fn exactly<const COUNT: usize>(given: Vec<OsString>, form: &Form) -> Done<[OsString; COUNT]> {
+pub fn exactly<const COUNT: usize>(given: Vec<OsString>, usage: &Usage) -> Done<[OsString; COUNT]> {
     let few = given.len() < COUNT;
     given.try_into().map_err(|_| {
         let why = if few { "too few" } else { "too many" };
-        form.fault(&format!("{why} arguments"))
+        usage.fault(&format!("{why} arguments"))
     })
 }
 
 /// The operands of a command without options.
-pub fn operands(given: Vec<OsString>, form: &Form) -> Done<Vec<OsString>> {
+pub fn operands(given: Vec<OsString>, usage: &Usage) -> Done<Vec<OsString>> {
     let operand = |item| match item {
         Item::Operand(operand) => Some(operand),
         Item::Flag(_) | Item::Value(..) => None,
     };
-    Ok(items(given, form)?
+    Ok(items(given, usage)?
         .into_iter()
         .filter_map(operand)
         .collect())
 }
 
 /// A number of 32 bits as the value of an option.
-pub fn number(option: &str, value: &OsStr, form: &Form) -> Done<u32> {
+pub fn number(option: &str, value: &OsStr, usage: &Usage) -> Done<u32> {
     let text = value.to_str().unwrap_or_default();
-    whole_32(text).map_err(|wrong| form.fault(&format!("{option}: {} {wrong}", shown(value))))
+    whole_32(text).map_err(|wrong| usage.fault(&format!("{option}: {} {wrong}", shown(value))))
 }

@@ -6,9 +6,10 @@
 
 use std::borrow::Cow;
 
-/// A cell with its line and its number in the line, both from 1.
+/// A cell with its line and its number in the line, both from 1, and whether it stood in quotes.
 pub struct Cell<'a> {
     pub text: Cow<'a, str>,
+    pub quoted: bool,
     pub line: usize,
     pub column: usize,
 }
@@ -75,6 +76,11 @@ impl<'a> Cells<'a> {
         }
     }
 
+    /// Blanks are the separator.
+    pub fn by_blanks(&self) -> bool {
+        self.separator == ' '
+    }
+
     /// The line at which the text goes on.
     pub fn line(&self) -> usize {
         self.line
@@ -100,16 +106,22 @@ impl<'a> Cells<'a> {
     fn cell(&mut self, column: usize) -> Result<Cell<'a>, Wrong> {
         self.skip_blanks();
         let line = self.line;
-        let text = match self.rest.strip_prefix('"') {
+        let inside = self.rest.strip_prefix('"');
+        let text = match inside {
             Some(inside) => self.quoted(inside, column)?,
             None => self.bare(column)?,
         };
-        Ok(Cell { text, line, column })
+        Ok(Cell {
+            text,
+            quoted: inside.is_some(),
+            line,
+            column,
+        })
     }
 
     /// Skips blanks where they are the separator.
     fn skip_blanks(&mut self) {
-        if self.separator == ' ' {
+        if self.by_blanks() {
             self.rest = self.rest.trim_start_matches(' ');
         }
     }

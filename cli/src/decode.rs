@@ -3,10 +3,11 @@
 //!   run  the command
 
 use crate::answers::{self, Arrivals, Decoded};
-use crate::arguments::{self, Form};
+use crate::arguments::{self, Usage};
 use crate::check::Matrix;
 use crate::fault::{refused, wrong_table, Done};
-use crate::outputs::{must_be_free, NewFile};
+use crate::job::length;
+use crate::outputs::{made_all_the_same, must_be_free, same_place, warn_of_left_overs, NewFile};
 use crate::primes;
 use crate::shared::{self, Shared, JOB_NAME};
 use crate::sys;
@@ -18,8 +19,8 @@ use std::ffi::OsString;
 use std::path::{Path, PathBuf};
 
 /// How it is used.
-const FORM: Form = Form {
-    usage: "mukerihe decode [--page FILE] FOLDER TABLE [--minute N] ANSWER..",
+const USAGE: Usage = Usage {
+    text: "mukerihe decode [--page FILE] FOLDER TABLE [--minute N] ANSWER..",
     flags: &[],
     valued: &["--minute", "--page"],
 };
@@ -27,7 +28,7 @@ const FORM: Form = Form {
 /// The columns of a job's table.
 fn columns(shared: &Shared) -> usize {
     let [_, _, r] = shared.job.sizes;
-    usize::try_from(r).unwrap_or(usize::MAX)
+    length(r)
 }
 
 /// The table passes the check that `share` made.
@@ -42,7 +43,7 @@ fn must_pass(shared: &Shared, decoded: &Decoded, arrivals: &Arrivals) -> Done<()
     }
     Err(wrong_table(format!(
         "this is not the table of this job, and it is not written. It was decoded from the answers \
-         of the hosts {}, and one of them is wrong; with spare answers, give others first",
+         of the hosts {}, and at least one of them is wrong; with spare answers, give others first",
         arrivals.used(decoded)
     )))
 }
@@ -92,7 +93,7 @@ fn write(
     }
     table_file.name()?;
     told.line(format!("{}: the table; it passed the check", shown(path)));
-    Ok(())
+    told.send().map_err(|fault| made_all_the_same(fault, path))
 }
 
 /// What is told of a table whose entries may be no whole numbers.
@@ -106,16 +107,19 @@ fn wrap_line(shared: &Shared) -> Option<String> {
 
 /// Decodes a table. What was told of the answers is sent whatever becomes of it.
 pub fn run(arguments: Vec<OsString>) -> Done<()> {
-    let mut given = answers::given(arguments, 2, &FORM)?;
+    let mut given = answers::given(arguments, 2, &USAGE)?;
     let operands = std::mem::take(&mut given.operands);
-    let [folder, path] = arguments::exactly(operands, &FORM)?.map(PathBuf::from);
-    if given.page.as_ref() == Some(&path) {
-        return Err(FORM.fault("the page and the table have one name"));
+    let [folder, path] = arguments::exactly(operands, &USAGE)?.map(PathBuf::from);
+    if let Some(page) = &given.page {
+        if same_place(page, &path)? {
+            return Err(USAGE.fault("the page and the table have one name"));
+        }
     }
     let shared = shared::read(&folder)?;
-    given.must_fit(&shared.job, &FORM)?;
+    given.must_fit(&shared.job, &USAGE)?;
     must_be_free(&path)?;
     given.page.as_deref().map_or(Ok(()), must_be_free)?;
+    warn_of_left_overs(&path)?;
     let plan = shared.job.plan(&shown(folder.join(JOB_NAME)))?;
     let mut arrivals = Arrivals::new(&shared.job, &plan);
     let mut told = Told::default();

@@ -28,12 +28,12 @@ fn open(path: &Path) -> Done<File> {
         return Ok(file);
     }
     let name = shown(path);
-    let kind = kind_name(kind);
+    let kind = file_kind(kind);
     Err(no_file(format!("{name}: {kind}; expected a regular file")))
 }
 
 /// What a file is that is no regular one.
-fn kind_name(kind: FileType) -> &'static str {
+fn file_kind(kind: FileType) -> &'static str {
     if kind.is_dir() {
         "a folder"
     } else if kind.is_fifo() {

@@ -5,6 +5,7 @@
 //!   Names      which names a table has
 //!   JobFile    what JOB says
 //!   read       reads JOB
+//!   length     a size as the length of a list
 //!   count      how many elements a matrix has
 
 use crate::fault::{refused, Done, Fault};
@@ -12,7 +13,7 @@ use crate::files;
 use crate::primes;
 use crate::sys;
 use crate::text::{shown, shown_name, text_of, whole_32};
-use crate::words::{by, TOO_FEW_HOSTS};
+use crate::words::{by, BAD_HOSTS, TOO_FEW_HOSTS};
 use std::path::Path;
 
 /// The most bytes of JOB.
@@ -91,7 +92,7 @@ impl Job {
     }
 
     /// How many hosts would be enough where there are too few: the first number of hosts with which
-    /// the plan is not refused for their number.
+    /// the plan is not refused for being too few, unless it is refused for being too many.
     fn more_hosts(&self) -> String {
         let with = |hosts: u32| {
             let points: Vec<u32> = (1..=hosts).collect();
@@ -99,14 +100,17 @@ impl Job {
                 hosts,
                 ..self.clone()
             };
-            sys::plan(&job.words(), &points)
+            (hosts, sys::plan(&job.words(), &points))
         };
         let first = (self.hosts.saturating_add(1)..=MOST_POINTS)
             .map(with)
-            .find(|planned| *planned != Err(TOO_FEW_HOSTS));
+            .find(|(_, planned)| *planned != Err(TOO_FEW_HOSTS));
         match first {
-            Some(Ok([_, needed, ..])) => format!(" ({needed} hosts would do)"),
-            _ => " (no number of hosts would do: fewer cuts or smaller groups)".to_string(),
+            None | Some((_, Err(BAD_HOSTS))) => {
+                let other = "fewer cuts, smaller groups or a larger prime";
+                format!(" (no number of hosts would do: {other})")
+            }
+            Some((hosts, _)) => format!(" ({hosts} hosts would do)"),
         }
     }
 }
@@ -116,6 +120,18 @@ impl Job {
 pub struct Names {
     pub rows: bool,
     pub columns: bool,
+}
+
+impl Names {
+    /// Which names there are, in words.
+    pub fn words(self) -> &'static str {
+        match (self.rows, self.columns) {
+            (false, false) => "no names",
+            (true, false) => "names of rows",
+            (false, true) => "names of columns",
+            (true, true) => "names of rows and columns",
+        }
+    }
 }
 
 /// What JOB says.
@@ -154,16 +170,16 @@ struct Line<'a> {
 }
 
 /// All lines of JOB.
-struct Lines<'a> {
+struct JobLines<'a> {
     file: &'a str,
     lines: Vec<Line<'a>>,
 }
 
-impl<'a> Lines<'a> {
+impl<'a> JobLines<'a> {
     /// The lines of a text; empty ones and comments are left out.
-    fn of(file: &'a str, text: &'a str) -> Done<Lines<'a>> {
+    fn of(file: &'a str, text: &'a str) -> Done<JobLines<'a>> {
         let lines = Vec::new();
-        let mut all = Lines { file, lines };
+        let mut all = JobLines { file, lines };
         for (before, raw) in text.lines().enumerate() {
             if let Some(line) = all.line(before + 1, raw)? {
                 all.lines.push(line);
@@ -306,7 +322,7 @@ impl<'a> Lines<'a> {
 pub fn read(path: &Path) -> Done<JobFile> {
     let file = shown(path);
     let text = text_of(files::read(path, MOST_JOB)?, &file)?;
-    let lines = Lines::of(&file, &text)?;
+    let lines = JobLines::of(&file, &text)?;
     let modulus = lines.modulus()?;
     let sizes = lines.exactly(lines.need("sizes")?)?;
     let cuts = lines.exactly(lines.need("cuts")?)?;
@@ -329,8 +345,12 @@ pub fn read(path: &Path) -> Done<JobFile> {
     })
 }
 
+/// A size as the length of a list.
+pub fn length(size: u32) -> usize {
+    usize::try_from(size).unwrap_or(usize::MAX)
+}
+
 /// How many elements a matrix of so many rows and columns has.
 pub fn count([rows, columns]: [u32; 2]) -> usize {
-    let size = |size| usize::try_from(size).unwrap_or(usize::MAX);
-    size(rows).saturating_mul(size(columns))
+    length(rows).saturating_mul(length(columns))
 }

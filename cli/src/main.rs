@@ -56,6 +56,19 @@ use told::Told;
 /// What `--version` says.
 const VERSION: &str = "mukerihe 0.1.0";
 
+/// A command: it takes the arguments after its name.
+type Command = fn(Vec<OsString>) -> Done<()>;
+
+/// The commands by their names.
+const COMMANDS: [(&str, Command); 6] = [
+    ("plan", plan::run),
+    ("share", share::run),
+    ("multiply", multiply::run),
+    ("heard", heard::run),
+    ("decode", decode::run),
+    ("show", show::run),
+];
+
 /// What `help` says.
 const HELP: &str = "\
 mukerihe: masked kinship tables. The table A times B is made on machines of many
@@ -94,39 +107,28 @@ fn say(text: &str, arguments: &[OsString]) -> Done<()> {
     told.send()
 }
 
-/// Help is asked for among the options.
-fn asks_help(arguments: &[OsString]) -> bool {
-    let mut options = arguments.iter().take_while(|argument| *argument != "--");
-    options.any(|argument| argument == "--help")
-}
-
 /// Runs a command.
 fn run(mut arguments: Vec<OsString>) -> Done<()> {
     if sys::output_was_closed() {
         return Err(no_file("standard output is closed"));
     }
-    if asks_help(&arguments) {
-        return say(HELP, &[]);
-    }
     if arguments.is_empty() {
         return Err(wrong_use("no command; see mukerihe help"));
     }
-    let command = arguments.remove(0);
-    match command.to_str() {
-        Some("plan") => plan::run(arguments),
-        Some("share") => share::run(arguments),
-        Some("multiply") => multiply::run(arguments),
-        Some("heard") => heard::run(arguments),
-        Some("decode") => decode::run(arguments),
-        Some("show") => show::run(arguments),
-        Some("help") => say(HELP, &arguments),
+    let name = arguments.remove(0);
+    if let Some((_, command)) = COMMANDS.iter().find(|(known, _)| name == *known) {
+        return match arguments == ["--help"] {
+            true => say(HELP, &[]),
+            false => command(arguments),
+        };
+    }
+    match name.to_str() {
+        Some("help" | "--help") => say(HELP, &arguments),
         Some("--version") => say(VERSION, &arguments),
-        _ => {
-            let name = shown(&command);
-            Err(wrong_use(format!(
-                "no such command: {name}; see mukerihe help"
-            )))
-        }
+        _ => Err(wrong_use(format!(
+            "no such command: {}; see mukerihe help",
+            shown(&name)
+        ))),
     }
 }
 

@@ -3,10 +3,10 @@
 //!   run  the command
 
 use crate::answers::kind_name;
-use crate::arguments::{self, Form};
+use crate::arguments::{self, Usage};
 use crate::fault::{refused, Done, Fault};
 use crate::files;
-use crate::outputs::NewFile;
+use crate::outputs::{made_all_the_same, NewFile};
 use crate::primes;
 use crate::sys;
 use crate::text::shown;
@@ -16,8 +16,8 @@ use std::ffi::OsString;
 use std::path::{Path, PathBuf};
 
 /// How it is used.
-const FORM: Form = Form {
-    usage: "mukerihe multiply A.mdo B.mdo [ANSWER]",
+const USAGE: Usage = Usage {
+    text: "mukerihe multiply A.mdo B.mdo [ANSWER]",
     flags: &[],
     valued: &[],
 };
@@ -53,12 +53,12 @@ fn answer_name(answer: &[u8]) -> Done<PathBuf> {
 
 /// Multiplies two shares.
 pub fn run(arguments: Vec<OsString>) -> Done<()> {
-    let mut operands = arguments::operands(arguments, &FORM)?;
+    let mut operands = arguments::operands(arguments, &USAGE)?;
     let third = match operands.len() {
         3 => operands.pop().map(PathBuf::from),
         _ => None,
     };
-    let [a_path, b_path] = arguments::exactly(operands, &FORM)?.map(PathBuf::from);
+    let [a_path, b_path] = arguments::exactly(operands, &USAGE)?.map(PathBuf::from);
     let a = files::read_message(&a_path)?;
     let b = files::read_message(&b_path)?;
     let made = sys::answer(&a, &b);
@@ -74,5 +74,5 @@ pub fn run(arguments: Vec<OsString>) -> Done<()> {
     told.send()?;
     file.name()?;
     told.line(format!("send back {name} only, then delete both shares"));
-    told.send()
+    told.send().map_err(|fault| made_all_the_same(fault, &path))
 }

@@ -4,10 +4,13 @@
 //!   place_of      a path as its folder and its last name
 //!   give_name     a file or folder given its final name
 //!   sync_folder   the names in a folder are on the disk
+//!   same_place    two paths name one place
 //!   NewFile       a file under a temporary name
 //!   NewFolder     a folder under a temporary name
+//!   made_all_the_same
+//!                 a fault after which an output is there
 //!   warn_of_left_overs
-//!                 names folders that a run which was killed left
+//!                 names what runs that were killed left
 
 use crate::fault::{no_file, warn, Done, Fault};
 use crate::sys;
@@ -22,13 +25,16 @@ use std::path::{Path, PathBuf};
 /// A link in the place of the new file is not followed.
 const O_NOFOLLOW: i32 = 0o400000;
 
+/// What the system says where a folder may not be read.
+const EACCES: i32 = 13;
+
 /// What the system says where a file system has no renaming without replacing, or no syncing.
 const EINVAL: i32 = 22;
 
 /// What the system says where it has no such call.
 const ENOSYS: i32 = 38;
 
-/// The ending of a folder's temporary name.
+/// What stands in a temporary name.
 const UNFINISHED: &str = ".mukerihe-unfinished";
 
 /// How many temporary names are tried.
@@ -66,7 +72,7 @@ pub fn place_of(path: &Path) -> Done<(PathBuf, &OsStr)> {
 }
 
 /// Renames where the file system has no call that never replaces: a folder replaces nothing but an
-/// empty folder, and a file gets its new name as a second one.
+/// empty folder that came meanwhile, and a file gets its new name as a second one.
 fn rename_in_steps(old: &Path, new: &Path) -> io::Result<()> {
     if fs::symlink_metadata(old)?.is_dir() {
         return fs::rename(old, new);
@@ -87,11 +93,15 @@ pub fn give_name(old: &Path, new: &Path) -> Done<()> {
     })
 }
 
-/// The names in a folder are on the disk. A file system that cannot sync a folder is let pass.
+/// The names in a folder are on the disk. A file system that cannot sync a folder is let pass, and
+/// so is a folder that may be written and not read.
 pub fn sync_folder(folder: &Path) -> Done<()> {
     match File::open(folder).and_then(|opened| opened.sync_all()) {
-        Err(error) if error.raw_os_error() != Some(EINVAL) => Err(failed(folder, &error)),
-        _ => Ok(()),
+        Ok(()) => Ok(()),
+        Err(error) => match error.raw_os_error() {
+            Some(EACCES | EINVAL) => Ok(()),
+            _ => Err(failed(folder, &error)),
+        },
     }
 }
 
@@ -111,7 +121,7 @@ fn create_folder(path: &Path) -> io::Result<()> {
 }
 
 /// Writes bytes to a new file and sees that they are on the disk.
-fn fill(mut file: File, bytes: &[u8]) -> io::Result<()> {
+fn write_synced(mut file: File, bytes: &[u8]) -> io::Result<()> {
     file.write_all(bytes)?;
     file.sync_all()
 }
@@ -121,27 +131,31 @@ pub struct NewFile {
     temporary: PathBuf,
     path: PathBuf,
     folder: PathBuf,
+    named: bool,
 }
 
 impl NewFile {
     /// Writes a file under a temporary name.
     pub fn write(path: &Path, bytes: &[u8]) -> Done<NewFile> {
         must_be_free(path)?;
-        let (folder, _) = place_of(path)?;
-        let (file, temporary) = temporary_file(&folder)?;
+        let (folder, name) = place_of(path)?;
+        let (file, temporary) = temporary_file(&folder, name)?;
         let new = NewFile {
             temporary,
             path: path.to_path_buf(),
             folder,
+            named: false,
         };
-        fill(file, bytes).map_err(|error| failed(&new.temporary, &error))?;
+        write_synced(file, bytes).map_err(|error| failed(&new.temporary, &error))?;
         Ok(new)
     }
 
-    /// Gives the file its name.
-    pub fn name(self) -> Done<()> {
+    /// Gives the file its name. From then on nothing of it has the temporary name, which another run
+    /// may take.
+    pub fn name(mut self) -> Done<()> {
         give_name(&self.temporary, &self.path)?;
-        sync_folder(&self.folder)
+        self.named = true;
+        sync_folder(&self.folder).map_err(|fault| made_all_the_same(fault, &self.path))
     }
 }
 
@@ -149,25 +163,32 @@ impl Drop for NewFile {
     /// Removes the file where it still has its temporary name. What goes wrong here is told by the
     /// fault that led here.
     fn drop(&mut self) {
-        fs::remove_file(&self.temporary).unwrap_or_default();
+        if !self.named {
+            fs::remove_file(&self.temporary).unwrap_or_default();
+        }
     }
 }
 
-/// A new file under a temporary name in a folder.
-fn temporary_file(folder: &Path) -> Done<(File, PathBuf)> {
+/// A fault after which an output is there, whole.
+pub fn made_all_the_same(fault: Fault, path: &Path) -> Fault {
+    fault.and(&format!("{} is made all the same", shown(path)))
+}
+
+/// A new file under a temporary name in a folder: `.NAME.mukerihe-unfinished-..`.
+fn temporary_file(folder: &Path, name: &OsStr) -> Done<(File, PathBuf)> {
     let process = std::process::id();
     for turn in 0..NAMES_TRIED {
-        let path = folder.join(format!(".mukerihe-unfinished-{process}-{turn}"));
+        let mut hidden = hidden(name);
+        hidden.push(format!("-{process}-{turn}"));
+        let path = folder.join(hidden);
         match create(&path) {
             Ok(file) => return Ok((file, path)),
             Err(error) if error.kind() == ErrorKind::AlreadyExists => {}
-            Err(error) => return Err(failed(folder, &error)),
+            Err(error) => return Err(failed(&path, &error)),
         }
     }
-    let name = shown(folder);
-    Err(no_file(format!(
-        "{name}: full of files .mukerihe-unfinished"
-    )))
+    let name = shown(folder.join(hidden(name)));
+    Err(no_file(format!("{name}-..: too many of these are there")))
 }
 
 /// A folder under a temporary name beside its final one: `.NAME.mukerihe-unfinished`.
@@ -205,7 +226,7 @@ impl NewFolder {
     pub fn file(&self, name: &str, bytes: &[u8]) -> Done<()> {
         let path = self.temporary.join(name);
         create(&path)
-            .and_then(|file| fill(file, bytes))
+            .and_then(|file| write_synced(file, bytes))
             .map_err(|error| failed(&path, &error))
     }
 
@@ -236,7 +257,7 @@ impl NewFolder {
     }
 }
 
-/// The temporary name of a folder.
+/// The temporary name of a folder, and the front of a file's.
 fn hidden(name: &OsStr) -> OsString {
     let mut hidden = OsString::from(".");
     hidden.push(name);
@@ -253,14 +274,26 @@ fn left_over(path: &Path) -> String {
     )
 }
 
-/// Warns of folders beside a path that other runs which were killed, or are at work, have there.
+/// Warns of what other runs that were killed, or are at work, have beside a path.
 pub fn warn_of_left_overs(path: &Path) -> Done<()> {
     let (beside, name) = place_of(path)?;
     let entries = fs::read_dir(beside).into_iter().flatten().flatten();
-    let other =
-        |found: &OsStr| found.as_bytes().ends_with(UNFINISHED.as_bytes()) && found != hidden(name);
+    let other = |found: &OsStr| contains(found, UNFINISHED) && found != hidden(name);
     for entry in entries.filter(|entry| other(&entry.file_name())) {
         warn(&left_over(&entry.path()))?;
     }
     Ok(())
+}
+
+/// A text stands in a name.
+fn contains(name: &OsStr, text: &str) -> bool {
+    let mut windows = name.as_bytes().windows(text.len());
+    windows.any(|window| window == text.as_bytes())
+}
+
+/// Two paths name one place: the same name in the same folder.
+pub fn same_place(one: &Path, other: &Path) -> Done<bool> {
+    let ((one_folder, one_name), (other_folder, other_name)) = (place_of(one)?, place_of(other)?);
+    let real = |folder: PathBuf| fs::canonicalize(&folder).map_err(|error| failed(&folder, &error));
+    Ok(one_name == other_name && real(one_folder)? == real(other_folder)?)
 }

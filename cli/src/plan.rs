@@ -4,7 +4,7 @@
 //!   message_bytes  how many bytes a message has
 //!   plan_line      the layout and how many answers suffice, in a line
 
-use crate::arguments::{self, Form};
+use crate::arguments::{self, Usage};
 use crate::fault::Done;
 use crate::job::{self, Job, Plan};
 use crate::primes;
@@ -14,8 +14,8 @@ use std::ffi::OsString;
 use std::path::Path;
 
 /// How it is used.
-const FORM: Form = Form {
-    usage: "mukerihe plan JOB",
+const USAGE: Usage = Usage {
+    text: "mukerihe plan JOB",
     flags: &[],
     valued: &[],
 };
@@ -83,7 +83,7 @@ fn promise_lines(job: &Job) -> [String; 3] {
 
 /// Tells what a job needs.
 pub fn run(arguments: Vec<OsString>) -> Done<()> {
-    let [path] = arguments::exactly(arguments::operands(arguments, &FORM)?, &FORM)?;
+    let [path] = arguments::exactly(arguments::operands(arguments, &USAGE)?, &USAGE)?;
     let path = Path::new(&path);
     let job = job::read(path)?.job;
     let plan = job.plan(&shown(path))?;

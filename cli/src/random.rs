@@ -3,7 +3,7 @@
 //!   Source  where random words come from
 //!   number  a fresh job number
 
-use crate::fault::{no_file, refused, Done};
+use crate::fault::{no_file, refused, Done, Fault};
 use crate::files;
 use crate::outputs::{give_name, place_of, sync_folder};
 use crate::sys;
@@ -21,7 +21,8 @@ const SPARE: usize = 16;
 /// in 2^100.
 const TURNS: u32 = 8;
 
-/// The most bytes of a file of random words. The largest job needs about 350,000 words.
+/// The most bytes of a file of random words. No job draws more than 311,296 elements: masks of 2 · 16
+/// blocks of 4096, and a V of 16384 by 11.
 const MOST_WORDS: usize = 16 * 1024 * 1024;
 
 /// The ending of a file whose words were used.
@@ -29,7 +30,7 @@ const SPENT: &str = ".spent";
 
 /// Fills a buffer from the system's random source. Short reads and interrupted ones go on; there is
 /// no other source.
-fn fill(mut rest: &mut [u8]) -> Done<()> {
+fn fill_from_system(mut rest: &mut [u8]) -> Done<()> {
     let failed = |why: &str| no_file(format!("the system's random source: {why}"));
     while !rest.is_empty() {
         match sys::random(rest) {
@@ -58,14 +59,14 @@ fn words_of(bytes: &[u8]) -> Vec<u32> {
 /// So many words of the system's random source.
 fn system_words(count: usize) -> Done<Vec<u32>> {
     let mut bytes = vec![0; count.saturating_mul(4)];
-    fill(&mut bytes)?;
+    fill_from_system(&mut bytes)?;
     Ok(words_of(&bytes))
 }
 
 /// A fresh job number.
 pub fn number() -> Done<u32> {
     let mut bytes = [0; 4];
-    fill(&mut bytes)?;
+    fill_from_system(&mut bytes)?;
     Ok(u32::from_be_bytes(bytes))
 }
 
@@ -130,8 +131,17 @@ impl Source {
             Source::System => Ok(()),
             Source::File { path, .. } => {
                 give_name(path, &spent_name(path))?;
-                sync_folder(&place_of(path)?.0)
+                let synced = sync_folder(&place_of(path)?.0);
+                synced.map_err(|fault| self.with_words(fault))
             }
+        }
+    }
+
+    /// A fault after which the file of words is spent.
+    pub fn with_words(&self, fault: Fault) -> Fault {
+        match self.told() {
+            None => fault,
+            Some(line) => fault.and(&line),
         }
     }
 

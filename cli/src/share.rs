@@ -2,12 +2,12 @@
 //!
 //!   run  the command
 
-use crate::arguments::{self, Form, Item};
+use crate::arguments::{self, Item, Usage};
 use crate::bound;
 use crate::check::{self, Check};
-use crate::fault::{refused, warn, Done, Fault};
-use crate::job::{self, count, Job, JobFile, Names, Plan};
-use crate::outputs::{must_be_free, warn_of_left_overs, NewFolder};
+use crate::fault::{refused, warn, Done};
+use crate::job::{self, count, length, Job, JobFile, Names, Plan};
+use crate::outputs::{made_all_the_same, must_be_free, warn_of_left_overs, NewFolder};
 use crate::plan::{message_bytes, plan_line};
 use crate::primes;
 use crate::random::{self, Source};
@@ -21,8 +21,8 @@ use std::ffi::{OsStr, OsString};
 use std::path::{Path, PathBuf};
 
 /// How it is used.
-const FORM: Form = Form {
-    usage: "mukerihe share [--transpose-b] [--signed] [--wrap] [--number N] [--words FILE] \
+const USAGE: Usage = Usage {
+    text: "mukerihe share [--transpose-b] [--signed] [--wrap] [--number N] [--words FILE] \
             JOB A B FOLDER",
     flags: &["--transpose-b", "--signed", "--wrap"],
     valued: &["--number", "--words"],
@@ -49,7 +49,7 @@ impl Wanted {
     fn read(arguments: Vec<OsString>) -> Done<(Wanted, [PathBuf; 4])> {
         let mut wanted = Wanted::default();
         let mut operands = Vec::new();
-        for item in arguments::items(arguments, &FORM)? {
+        for item in arguments::items(arguments, &USAGE)? {
             match item {
                 Item::Flag("--transpose-b") => wanted.transpose_b = true,
                 Item::Flag("--signed") => wanted.signed = true,
@@ -58,7 +58,7 @@ impl Wanted {
                 Item::Operand(operand) => operands.push(operand),
             }
         }
-        let paths = arguments::exactly(operands, &FORM)?.map(PathBuf::from);
+        let paths = arguments::exactly(operands, &USAGE)?.map(PathBuf::from);
         Ok((wanted, paths))
     }
 
@@ -66,10 +66,10 @@ impl Wanted {
     fn set(&mut self, option: &str, value: &OsStr) -> Done<()> {
         match option {
             "--number" if self.number.is_none() => {
-                self.number = Some(arguments::number(option, value, &FORM)?);
+                self.number = Some(arguments::number(option, value, &USAGE)?);
             }
             "--words" if self.words.is_none() => self.words = Some(PathBuf::from(value)),
-            _ => return Err(FORM.fault(&format!("{option} is given twice"))),
+            _ => return Err(USAGE.fault(&format!("{option} is given twice"))),
         }
         Ok(())
     }
@@ -77,7 +77,7 @@ impl Wanted {
     /// Reads a table of so many rows and columns.
     fn table(&self, path: &Path, job: &Job, sizes: [u32; 2], names: Names) -> Done<Table> {
         let [rows, columns] = sizes;
-        table::read(&table::Form {
+        table::read(&table::Shape {
             path,
             rows,
             columns,
@@ -98,6 +98,21 @@ impl Wanted {
         };
         table::same_markers((&a, a_path), (&b, b_path))?;
         Ok(Tables { a, b })
+    }
+
+    /// What was read of A and B, a line each.
+    fn read_lines(&self, file: &JobFile, a_path: &Path, b_path: &Path) -> [String; 2] {
+        let [t, s, r] = file.job.sizes;
+        let (a_name, a_names) = (shown(a_path), file.names_a.words());
+        let (b_name, b_names) = (shown(b_path), file.names_b.words());
+        let b_sizes = match self.transpose_b {
+            true => format!("{r} by {s}, taken transposed"),
+            false => format!("{s} by {r}"),
+        };
+        [
+            format!("A: {a_name}, {t} by {s}, with {a_names}"),
+            format!("B: {b_name}, {b_sizes}, with {b_names}"),
+        ]
     }
 
     /// How large an entry may be, and whether it may then be no whole number, which is refused
@@ -183,9 +198,7 @@ impl Sharing<'_> {
 impl<'a> Sharing<'a> {
     /// A job with its tables, and masks that are drawn: those of A first, then those of B.
     fn drawn(job: &'a Job, plan: &'a Plan, tables: &'a Tables, source: &mut Source) -> Done<Self> {
-        let [xa, xb] = job
-            .groups
-            .map(|size| usize::try_from(size).unwrap_or(usize::MAX));
+        let [xa, xb] = job.groups.map(length);
         let a_length = xa.saturating_mul(count([plan.rows, plan.inner]));
         let b_length = xb.saturating_mul(count([plan.inner, plan.columns]));
         Ok(Sharing {
@@ -208,12 +221,15 @@ fn check_of(job: &Job, tables: &Tables, source: &mut Source) -> Done<Check> {
 }
 
 /// What is told before the folder gets its name.
-fn told_of(sharing: &Sharing, bound: u128) -> Told {
+fn told_of(sharing: &Sharing, bound: u128, read: &[String]) -> Told {
     let (job, mut told) = (sharing.job, Told::default());
+    read.iter().for_each(|line| told.line(line));
     let prime = primes::prime_of(job.modulus).unwrap_or_default();
     told.line(format!("job {:08x} (number {})", job.number, job.number));
     told.line(plan_line(job, sharing.plan));
-    told.line(format!("prime {prime}; no entry is larger than {bound}"));
+    told.line(format!(
+        "prime {prime}; no entry of A times B is larger than {bound}"
+    ));
     told
 }
 
@@ -224,13 +240,7 @@ fn make(path: &Path, text: &str, sharing: &Sharing, source: &Source, mut told: T
     let spent = filled.and_then(|()| source.spend());
     spent.map_err(|fault| folder.removed(fault))?;
     let named = folder.name().map_err(|fault| folder.removed(fault));
-    let with_words = |fault| {
-        source
-            .told()
-            .iter()
-            .fold(fault, |all: Fault, line| all.and(line))
-    };
-    named.map_err(with_words)?;
+    named.map_err(|fault| source.with_words(fault))?;
     let name = shown(path);
     let hosts = sharing.job.hosts;
     told.line(format!(
@@ -241,7 +251,7 @@ fn make(path: &Path, text: &str, sharing: &Sharing, source: &Source, mut told: T
     ));
     source.told().iter().for_each(|line| told.line(line));
     let ended = folder.named().and_then(|()| told.send());
-    ended.map_err(|fault| fault.and(&format!("{name} is made all the same")))
+    ended.map_err(|fault| made_all_the_same(fault, path))
 }
 
 /// Shares a job.
@@ -268,5 +278,7 @@ pub fn run(arguments: Vec<OsString>) -> Done<()> {
     if text.len() > MOST_SHARED {
         return Err(refused("the names of rows and columns are too long"));
     }
-    make(&path, &text, &sharing, &source, told_of(&sharing, bound))
+    let read = wanted.read_lines(&file, &a_path, &b_path);
+    let told = told_of(&sharing, bound, &read);
+    make(&path, &text, &sharing, &source, told)
 }

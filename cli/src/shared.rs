@@ -139,11 +139,11 @@ impl Shared {
 }
 
 /// The lines of the file, one after another.
-struct Lines<'a> {
+struct SharedLines<'a> {
     lines: std::str::Lines<'a>,
 }
 
-impl<'a> Lines<'a> {
+impl<'a> SharedLines<'a> {
     /// The value in the next line, which has this name.
     fn value(&mut self, name: &str) -> Option<&'a str> {
         let (found, value) = self.lines.next()?.split_once(" = ")?;
@@ -234,7 +234,7 @@ pub fn read(folder: &Path) -> Done<Shared> {
     let file = shown(&path);
     let bytes = files::read(&path, MOST_SHARED)?;
     let text = std::str::from_utf8(&bytes).unwrap_or_default();
-    let mut lines = Lines {
+    let mut lines = SharedLines {
         lines: text.lines(),
     };
     let as_written = |shared: &Shared| shared.text().as_bytes() == bytes;

@@ -3,7 +3,7 @@
 //!   run  the command
 
 use crate::answers::kind_name;
-use crate::arguments::{self, Form};
+use crate::arguments::{self, Usage};
 use crate::fault::{refused, Done};
 use crate::files;
 use crate::primes;
@@ -15,8 +15,8 @@ use std::ffi::OsString;
 use std::path::PathBuf;
 
 /// How it is used.
-const FORM: Form = Form {
-    usage: "mukerihe show MESSAGE",
+const USAGE: Usage = Usage {
+    text: "mukerihe show MESSAGE",
     flags: &[],
     valued: &[],
 };
@@ -64,7 +64,7 @@ fn size(message: &[u8]) -> String {
 
 /// Shows a message.
 pub fn run(arguments: Vec<OsString>) -> Done<()> {
-    let [path] = arguments::exactly(arguments::operands(arguments, &FORM)?, &FORM)?;
+    let [path] = arguments::exactly(arguments::operands(arguments, &USAGE)?, &USAGE)?;
     let path = PathBuf::from(path);
     let message = files::read_message(&path)?;
     let read = sys::read(&message);

@@ -49,6 +49,8 @@ extern "C" {
     ) -> c_int;
 
     fn fcntl(descriptor: c_int, command: c_int, ...) -> c_int;
+
+    fn signal(number: c_int, handler: usize) -> usize;
 }
 
 /// How many words a job has.
@@ -74,6 +76,12 @@ const RENAME_NOREPLACE: c_uint = 1;
 
 /// Asks for the flags of a descriptor.
 const F_GETFD: c_int = 1;
+
+/// The signal of a file that gets larger than it may.
+const SIGXFSZ: c_int = 25;
+
+/// A signal is passed over: the write that it came with fails then.
+const SIG_IGN: usize = 1;
 
 /// What a call that returned a number has done.
 fn done(number: u32) -> Result<(), u32> {
@@ -350,17 +358,20 @@ pub fn rename(old: &Path, new: &Path) -> io::Result<()> {
 /// Standard output was closed when the command began.
 static OUTPUT_WAS_CLOSED: AtomicBool = AtomicBool::new(false);
 
-/// Looks at standard output before Rust's own start, which puts /dev/null in place of a closed one.
-extern "C" fn look_at_output() {
+/// Looks at standard output before Rust's own start, which puts /dev/null in place of a closed one;
+/// and has a file that gets too large be a fault of its write.
+extern "C" fn begin() {
     // A question about a descriptor: it changes nothing, and needs no third argument.
     let closed = unsafe { fcntl(1, F_GETFD) } == -1;
     OUTPUT_WAS_CLOSED.store(closed, Ordering::Relaxed);
+    // No code of ours is to be called.
+    unsafe { signal(SIGXFSZ, SIG_IGN) };
 }
 
 /// The C library calls what stands in this section before `main`.
 #[used]
 #[link_section = ".init_array"]
-static LOOK_AT_OUTPUT: extern "C" fn() = look_at_output;
+static BEGIN: extern "C" fn() = begin;
 
 /// Standard output was closed when the command began: nothing can be told.
 pub fn output_was_closed() -> bool {

@@ -1,6 +1,6 @@
 //! Tables as text, read and written.
 //!
-//!   Form          what a table in a file must be
+//!   Shape         what a table in a file must be
 //!   Table         elements and names
 //!   read          reads a table
 //!   same_markers  A's columns and B's rows have the same names, in the same order
@@ -10,7 +10,7 @@ use crate::cells::{Cell, Cells, Wrong};
 use crate::check::Matrix;
 use crate::fault::{refused, Done, Fault};
 use crate::files;
-use crate::job::Names;
+use crate::job::{length, Names};
 use crate::primes;
 use crate::sys;
 use crate::text::{shown, shown_name, text_of, whole};
@@ -24,7 +24,7 @@ use std::path::Path;
 const MOST_TABLE: usize = 64 * 1024 * 1024;
 
 /// What a table in a file must be: its rows and columns, its names, and what its elements may be.
-pub struct Form<'a> {
+pub struct Shape<'a> {
     pub path: &'a Path,
     pub rows: u32,
     pub columns: u32,
@@ -66,25 +66,24 @@ impl Table {
 /// A table that is being read.
 struct Reader<'a> {
     file: &'a str,
-    form: &'a Form<'a>,
+    shape: &'a Shape<'a>,
     cells: Cells<'a>,
 }
 
 /// Reads a table.
-pub fn read(form: &Form) -> Done<Table> {
-    let file = shown(form.path);
-    let text = text_of(files::read(form.path, MOST_TABLE)?, &file)?;
+pub fn read(shape: &Shape) -> Done<Table> {
+    let file = shown(shape.path);
+    let text = text_of(files::read(shape.path, MOST_TABLE)?, &file)?;
     let mut reader = Reader {
         file: &file,
-        form,
+        shape,
         cells: Cells::of(&text),
     };
     let column_names = reader.column_names()?;
     let (row_names, elements) = reader.rows()?;
     reader.end()?;
-    let columns = usize::try_from(form.columns).unwrap_or(usize::MAX);
     Ok(Table {
-        columns,
+        columns: length(shape.columns),
         elements,
         row_names,
         column_names,
@@ -92,31 +91,27 @@ pub fn read(form: &Form) -> Done<Table> {
 }
 
 impl<'a> Reader<'a> {
+    /// A fault at a place.
+    fn fault_at(&self, line: usize, column: usize, why: &str) -> Fault {
+        let file = self.file;
+        refused(format!("{file}, line {line}, column {column}: {why}"))
+    }
+
     /// A fault at a cell.
     fn fault(&self, cell: &Cell, why: &str) -> Fault {
-        let Cell { line, column, .. } = cell;
-        refused(format!(
-            "{}, line {line}, column {column}: {why}",
-            self.file
-        ))
+        self.fault_at(cell.line, cell.column, why)
     }
 
     /// How many cells a line must have.
     fn width(&self) -> usize {
-        let columns = usize::try_from(self.form.columns).unwrap_or(usize::MAX);
-        columns.saturating_add(usize::from(self.form.names.rows))
+        length(self.shape.columns).saturating_add(usize::from(self.shape.names.rows))
     }
 
     /// The cells of the next line, as many as there must be; none at the end of the text.
     fn line(&mut self, hint: &str) -> Done<Option<Vec<Cell<'a>>>> {
         let (line, width) = (self.cells.line(), self.width());
-        let row = self.cells.row(width).map_err(|wrong| {
-            let Wrong { line, column, why } = wrong;
-            refused(format!(
-                "{}, line {line}, column {column}: {why}",
-                self.file
-            ))
-        })?;
+        let row = self.cells.row(width);
+        let row = row.map_err(|Wrong { line, column, why }| self.fault_at(line, column, why))?;
         let count = row.as_ref().map_or(width, Vec::len);
         let found = match count.cmp(&width) {
             Ordering::Equal => return Ok(row),
@@ -130,15 +125,15 @@ impl<'a> Reader<'a> {
     /// The line of column names, where the table has one. Before them stands a cell that means
     /// nothing, where the table has row names, too.
     fn column_names(&mut self) -> Done<Vec<String>> {
-        if !self.form.names.columns {
+        if !self.shape.names.columns {
             return Ok(Vec::new());
         }
-        let hint = match self.form.names.rows {
+        let hint = match self.shape.names.rows {
             true => "; expected one above the row names, which may be empty, and a name a column",
             false => "; expected a name a column",
         };
         let cells = self.line(hint)?.unwrap_or_default();
-        let corner = usize::from(self.form.names.rows);
+        let corner = usize::from(self.shape.names.rows);
         self.distinct(cells.into_iter().skip(corner))
     }
 
@@ -150,6 +145,10 @@ impl<'a> Reader<'a> {
             let name = cell.text.to_string();
             if name.trim().is_empty() {
                 return Err(self.fault(&cell, "an empty cell; expected a name"));
+            }
+            if self.cells.by_blanks() && !cell.quoted {
+                let why = "with blanks between cells a name must stand in quotes, or use tabs";
+                return Err(self.fault(&cell, why));
             }
             let place = (cell.line, cell.column);
             if let Some((line, column)) = known.insert(name.clone(), place) {
@@ -167,9 +166,9 @@ impl<'a> Reader<'a> {
     fn rows(&mut self) -> Done<(Vec<String>, Vec<u32>)> {
         let mut names = Vec::new();
         let mut elements = Vec::new();
-        for before in 0..self.form.rows {
+        for before in 0..self.shape.rows {
             let mut cells = self.row(before)?.into_iter();
-            names.extend(cells.by_ref().take(usize::from(self.form.names.rows)));
+            names.extend(cells.by_ref().take(usize::from(self.shape.names.rows)));
             let row: Done<Vec<u32>> = cells.map(|cell| self.element(&cell)).collect();
             elements.extend(row?);
         }
@@ -180,8 +179,8 @@ impl<'a> Reader<'a> {
     fn row(&mut self, before: u32) -> Done<Vec<Cell<'a>>> {
         let row = self.line("")?;
         row.ok_or_else(|| {
-            let (file, rows) = (self.file, self.form.rows);
-            let names = match self.form.names.columns {
+            let (file, rows) = (self.file, self.shape.rows);
+            let names = match self.shape.names.columns {
                 true => " after the line of names",
                 false => "",
             };
@@ -191,7 +190,7 @@ impl<'a> Reader<'a> {
 
     /// Nothing but empty lines comes after the last row.
     fn end(&mut self) -> Done<()> {
-        let rows = self.form.rows;
+        let rows = self.shape.rows;
         let more = format!("a row more than the {rows} that are expected");
         loop {
             let line = self.cells.line();
@@ -220,8 +219,8 @@ impl<'a> Reader<'a> {
         if below && size == 0 {
             return Err(format!("{} has a sign", shown_name(text)));
         }
-        match (self.form.signed, below) {
-            (true, _) => self.signed_element(size, below),
+        match (self.shape.signed, below) {
+            (true, _) => self.signed_element(text, size, below),
             (false, true) => Err(format!("{text} is below 0, which needs --signed")),
             (false, false) => self.plain_element(size),
         }
@@ -231,28 +230,29 @@ impl<'a> Reader<'a> {
     /// holds is above every prime, as the largest word is.
     fn plain_element(&self, size: u64) -> Result<u32, String> {
         let element = u32::try_from(size).unwrap_or(u32::MAX);
-        let read = sys::signed(self.form.modulus, element);
+        let read = sys::signed(self.shape.modulus, element);
         read.map(|_| element).map_err(|number| {
-            let prime = primes::prime_of(self.form.modulus).unwrap_or_default();
+            let prime = primes::prime_of(self.shape.modulus).unwrap_or_default();
             format!("{size}: {} {prime}", by(number))
         })
     }
 
     /// The element of a number by its signed reading.
-    fn signed_element(&self, size: u64, below: bool) -> Result<u32, String> {
+    fn signed_element(&self, text: &str, size: u64, below: bool) -> Result<u32, String> {
         let size = i64::try_from(size).unwrap_or(i64::MAX);
         let value = if below { -size } else { size };
-        sys::element(self.form.modulus, value).map_err(|number| {
-            let prime = primes::prime_of(self.form.modulus).unwrap_or_default();
+        sys::element(self.shape.modulus, value).map_err(|number| {
+            let prime = primes::prime_of(self.shape.modulus).unwrap_or_default();
             let most = primes::whole(prime, true);
-            format!("{value}: {}, -{most} to {most}", by(number))
+            format!("{text}: {}, -{most} to {most}", by(number))
         })
     }
 }
 
 /// Nothing stands in a line.
 fn is_empty_line(row: &[Cell]) -> bool {
-    row.len() == 1 && row.iter().all(|cell| cell.text.trim().is_empty())
+    let nothing = |cell: &Cell| !cell.quoted && cell.text.trim().is_empty();
+    row.len() == 1 && row.iter().all(nothing)
 }
 
 /// A's columns and B's rows have the same names in the same order, where both have names.

@@ -56,11 +56,11 @@ pub fn shown(path: impl AsRef<OsStr>) -> String {
     while let Err(error) = std::str::from_utf8(rest) {
         let (fit, unfit) = rest.split_at(error.valid_up_to());
         let wrong = error.error_len().unwrap_or(unfit.len());
-        text.push_str(&escaped(&String::from_utf8_lossy(fit)));
+        text.push_str(&visible(&String::from_utf8_lossy(fit)));
         text.push_str(&unfit.iter().take(wrong).map(hex).collect::<String>());
         rest = unfit.get(wrong..).unwrap_or_default();
     }
-    text.push_str(&escaped(&String::from_utf8_lossy(rest)));
+    text.push_str(&visible(&String::from_utf8_lossy(rest)));
     text
 }
 
@@ -76,11 +76,11 @@ const SHOWN: usize = 60;
 pub fn shown_name(name: &str) -> String {
     let front: String = name.chars().take(SHOWN).collect();
     let rest = if front.len() < name.len() { ".." } else { "" };
-    format!("\"{}{rest}\"", escaped(&front))
+    format!("\"{}{rest}\"", visible(&front))
 }
 
 /// A text with what cannot be seen escaped.
-fn escaped(text: &str) -> String {
+fn visible(text: &str) -> String {
     let escaped = text.escape_debug().to_string();
     escaped.replace("\\'", "'").replace("\\\"", "\"")
 }

@@ -2,8 +2,11 @@
 //!
 //!   words  what a number means
 //!   by     a refusal by a number: the number and its words
-//!   TOO_FEW_HOSTS, FOREIGN, ANSWER_DIFFERS, TOO_FEW_HEARD, TOO_FEW_WORDS, OUTSIDE_WINDOW
+//!   BAD_HOSTS, TOO_FEW_HOSTS, FOREIGN, ANSWER_DIFFERS, TOO_FEW_HEARD, TOO_FEW_WORDS, OUTSIDE_WINDOW
 //!          the numbers that the command has more to say about
+
+/// N is not 1 to 64, or not below the prime.
+pub const BAD_HOSTS: u32 = 7;
 
 /// K is over N.
 pub const TOO_FEW_HOSTS: u32 = 8;

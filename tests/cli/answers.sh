@@ -11,7 +11,8 @@ cmp -s two/send/01/*.a.mdo again/send/01/*.a.mdo && wrong "two runs have one sha
 cmp -s two/send/01/*.b.mdo again/send/01/*.b.mdo && wrong "two runs have one share"
 
 # Every pair of shares of two hosts and two runs, in both orders.
-files=(one/send/01/*.mdo one/send/02/*.mdo two/send/01/*.mdo two/send/02/*.mdo)
+ends 0 multiply one/send/02/*.a.mdo one/send/02/*.b.mdo answer.mdo
+files=(one/send/01/*.mdo one/send/02/*.mdo two/send/01/*.mdo two/send/02/*.mdo answer.mdo)
 for a in "${files[@]}"; do
     for b in "${files[@]}"; do
         due=1
@@ -61,6 +62,22 @@ says 'look at crossed.mdo: host 1 refused with 23: another answer of this host i
 cmp -s d3 table.due || wrong "another table"
 ends 0 decode one d4 one/send/01/*.a.mdo "${seven[@]}"
 says 'a share of A, expected an answer'
+{ head -c 7 answers1/01.mdo; printf '\x0a'; tail -c +9 answers1/01.mdo; } >above.mdo
+ends 4 heard one above.mdo "${seven[@]:1}"
+says 'above.mdo: host 10 refused with 12: no such host'
+
+# Answers of jobs with another prime and another size under the same number: 22 names what differs.
+sed 's/257/65537/' kinship.job >prime.job
+sed 's/4 6 4/4 6 2/; s/names_b = both/names_b = none/' kinship.job >size.job
+printf '1 1\n1 1\n1 1\n1 1\n1 1\n1 1\n' >ones
+ends 0 share --number 7 --transpose-b prime.job counts.tsv counts.tsv prime
+ends 0 share --number 7 size.job counts.tsv ones size
+answer prime answers_of_prime
+answer size answers_of_size
+ends 4 heard one answers_of_prime/01.mdo
+says 'refused with 22: it is not an answer of this job; prime 65537, expected 257'
+ends 4 heard one answers_of_size/01.mdo
+says 'refused with 22: it is not an answer of this job; 4 by 2, expected 4 by 4'
 for length in 0 1 15 16 17 79; do
     head -c $length answers1/01.mdo >cut.mdo
     ends 4 heard one cut.mdo "${seven[@]:1}"
@@ -69,6 +86,11 @@ done
 { cat answers1/01.mdo; echo; } >long.mdo
 ends 1 show long.mdo
 says 'refused with 20'
+says 'kind 3: an answer'
+says 'modulus number 2: prime 257'
+says 'host 1'
+says '4 by 4 elements'
+says 'job 00000007 (number 7)'
 head -c 100000 /dev/zero >long.mdo
 ends 1 show long.mdo
 says 'refused with 18'
@@ -127,6 +149,17 @@ ends 1 decode edited d7 answers4/0[3-9].mdo
 says 'edited/job: it is not as `mukerihe share` wrote it'
 { cat whole; echo; } >edited/job
 ends 1 decode edited d7 answers4/0[3-9].mdo
+python3 - whole >edited/job <<'PYTHON'
+import pathlib, sys
+text = pathlib.Path(sys.argv[1]).read_text().replace("row_names = 4\n", "row_names = 5\nname = one more\n")
+body = text[: text.rindex("sums = ")]
+one = two = 0
+for byte in body.encode():
+    one += byte
+    two += one
+print(f"{body}sums = {one} {two}")
+PYTHON
+ends 1 decode edited d7 answers4/0[3-9].mdo
 rm edited/job
 ends 3 decode edited d7 answers4/0[3-9].mdo
 [ ! -e d7 ] || wrong "a table by a damaged FOLDER/job"
@@ -140,7 +173,39 @@ ends 2 decode window w1 answers5/0[1-7].mdo
 ends 2 heard window answers5/01.mdo --minute 480 answers5/0[2-7].mdo
 ends 4 decode window w1 --minute 479 answers5/01.mdo --minute 480 answers5/02.mdo --minute 1199 answers5/0[3-7].mdo
 says 'host 1 refused with 30: its minute is outside the window; minute 479, expected 480 to 1199'
-ends 4 decode --minute 1200 window w1 answers5/01.mdo
+ends 4 decode --minute 1200 window w1 answers5/*
+says 'heard: none'
+says 'host 9 refused with 30'
 ends 0 decode window w1 --minute 1199 answers5/01.mdo --minute=480 answers5/0[2-7].mdo
 cmp -s w1 table.due || wrong "another table in a window"
 section "windows"
+
+# The check: V has 11, 5, 3 and 2 columns for the four primes, and r rows without a row of zeros; it refuses a table for each prime.
+for prime in 13:11 257:5 65537:3 2147483647:2; do
+    job "prime = ${prime%:*}" 'sizes = 2 3 20' 'cuts = 1 1 1' 'groups = 1 1' 'hosts = 4'
+    printf '1 0 1\n0 1 0\n' >a
+    printf '1%.0s ' $(seq 60) | xargs -n 20 >b
+    rm -rf first second answers_of_first answers_of_second
+    ends 0 share --number 3 some.job a b first
+    ends 0 share --number 3 some.job a b second
+    columns=$(sed -n 's/^v = //p' first/job | awk '{ print NF }' | uniq -c | awk '{ print $1, $2 }')
+    [ "$columns" = "20 ${prime#*:}" ] || wrong "V of prime ${prime%:*} has rows and columns $columns"
+    sed -n 's/^v = //p' first/job | grep -q '[1-9]' || wrong "V is zero"
+    ! sed -n 's/^v = //p' first/job | grep -qv '[1-9]' || wrong "V has a row of zeros"
+    answer first answers_of_first
+    answer second answers_of_second
+    ends 5 decode first checked answers_of_second/01.mdo answers_of_first/0[234].mdo
+    ends 0 decode first checked answers_of_first/01.mdo answers_of_first/0[234].mdo
+    [ "$(cut -f 1,20 checked)" = $'2\t2\n1\t1' ] || wrong "another table of prime ${prime%:*}"
+    rm checked
+done
+
+# Masks: the shares of tables of zeros are sums of masks alone, and with the largest prime none of their elements is 0.
+job 'prime = 2147483647' 'sizes = 4 6 2' 'cuts = 1 2 1' 'groups = 2 3' 'hosts = 9'
+printf '0 0 0 0 0 0\n%.0s' 1 2 3 4 >a
+printf '0 0\n%.0s' 1 2 3 4 5 6 >b
+ends 0 share some.job a b zeros
+for message in zeros/send/*/*.mdo; do
+    ! od -An -v -tx4 -w4 -j 16 --endian=big "$message" | grep -q 00000000 || wrong "an element without a mask: $message"
+done
+section "the check and the masks"

@@ -21,6 +21,10 @@ ends 2 decode --page f kinship f answers/01.mdo
 ends 2 heard --page f kinship answers/01.mdo
 ends 2 show
 ends 2 help me
+ends 2 bogus --help
+ends 2 plan --bogus --help
+ends 2 --help me
+ends 3 plan -- --help
 ends 0 help
 ends 0 share --help
 ends 0 --help
@@ -68,7 +72,12 @@ unfit 'refused with 5' "${base[@]/1 2 1/1 4 1}"
 unfit 'refused with 6' "${base[@]/4 6 4/4000 6 4}"
 unfit 'refused with 7' "${base[@]/= 9/= 4000000000}"
 unfit 'refused with 8: more answers are needed than there are hosts (7 hosts would do)' "${base[@]/= 9/= 6}"
+unfit 'refused with 8: more answers are needed than there are hosts (7 hosts would do)' "${base[@]/= 9/= 6}" 'opening = 7' 'closing = 7'
 unfit 'refused with 8: more answers are needed than there are hosts (no number of hosts would do' "${base[@]/1 2 1/4 6 4}"
+job "${base[@]/257/13}"
+sed -i 's/groups = .*/groups = 5 5/' some.job
+ends 1 plan some.job
+says 'refused with 8: more answers are needed than there are hosts (no number of hosts would do: fewer cuts, smaller groups or a larger prime)'
 unfit 'refused with 29' "${base[@]}" 'opening = 7' 'closing = 7'
 unfit 'refused with 8' "${base[@]:0:4}" 'points = 1 2 0'
 unfit 'refused with 10' "${base[@]:0:4}" 'points = 1 2 3 4 5 6 257'

@@ -21,9 +21,20 @@ injected() {
     tried=$((tried + 1))
 }
 
+# FOLDER is whole: its job is as it was written, and each of its six messages is fit: whole_folder FOLDER
+whole_folder() {
+    local message
+    [ "$(find "$1" -type f | wc -l)" -eq 7 ] || return 1
+    "$MUKERIHE" heard "$1" >whole.said 2>&1
+    [ $? -eq 4 ] || return 1
+    for message in "$1"/send/0[123]/*.[ab].mdo; do
+        "$MUKERIHE" show "$message" >whole.said 2>&1 || return 1
+    done
+}
+
 # What a run of the small job may leave: the folder, the answer, the table and the page, each whole or not there: whole WHEN
 whole() {
-    [ ! -e shaken ] || [ "$(find shaken -type f | wc -l)" -eq 7 ] || wrong "half a folder: $1"
+    [ ! -e shaken ] || whole_folder shaken || wrong "half a folder: $1"
     [ ! -e shaken.mdo ] || cmp -s shaken.mdo answers/01.mdo || wrong "half an answer: $1"
     [ ! -e shaken.tsv ] || cmp -s shaken.tsv table.due || wrong "half a table: $1"
     [ ! -e shaken.page ] || cmp -s shaken.page page.due || wrong "half a page: $1"
@@ -39,11 +50,13 @@ failing() {
     local at
     for at in $(seq 1 60); do
         injected "$1:error=$2:when=$at" "${@:3}"
+        ls -d shaken shaken.mdo shaken.tsv >left 2>/dev/null
         whole "$1 $2 $at"
         nothing_unfinished "$1 $2 $at"
         removed
         grep -q INJECTED trace || break
         [ "$got" -eq 3 ] || wrong "${*:3} with $1 $2 $at ends with $got"
+        [ ! -s left ] || says 'is made all the same'
     done
     [ "$at" -gt 1 ] && [ "$got" -eq 0 ] || wrong "${*:3}: no $1 was met, or more than $at"
 }
@@ -61,6 +74,11 @@ killed() {
             ends 0 share some.job a b beside
             says 'warning: ./.shaken.mukerihe-unfinished is there'
             rm -rf beside
+        fi
+        if ls .shaken.tsv.mukerihe-unfinished-* >/dev/null 2>&1; then
+            ends 0 decode one beside.tsv answers/*
+            says 'warning: ./.shaken.tsv.mukerihe-unfinished-'
+            rm beside.tsv
         fi
         removed
         [ "$got" -ne 0 ] || break
@@ -83,6 +101,34 @@ failing mkdir EIO "${small[@]}"
 killed mkdir "${small[@]}"
 section "errors and kills in the middle"
 
+# Words are spent before the folder has its name, wherever the run is killed.
+for at in 1 2 3; do
+    head -c 4000 /dev/urandom >words
+    injected "renameat2:signal=KILL:when=$at" share --words words "${small[@]:1}"
+    [ ! -e shaken ] || [ ! -e words ] || wrong "a folder, and its words are not spent"
+    removed
+    rm -f words words.spent
+done
+
+# All files and folders are synced: 7 files and 6 folders of share, a file and its folder of multiply, 2 files and 2 times the folder
+# of decode. And no name is taken away once the file has its own: another run may have taken it meanwhile.
+synced() {
+    strace -f -o trace "$MUKERIHE" "${@:2}" >said 2>&1 || wrong "${*:2}"
+    [ "$(grep -c fsync trace)" -eq "$1" ] || wrong "${*:2}: other than $1 syncs"
+    ! grep -q unlink trace || wrong "${*:2} removes something"
+    tried=$((tried + 1))
+}
+synced 13 "${small[@]}"
+synced 2 multiply one/send/01/*.a.mdo one/send/01/*.b.mdo shaken.mdo
+synced 4 decode --page shaken.page one shaken.tsv answers/*
+removed
+section "syncs"
+
+# The random source gives little at a time, nothing, or a fault.
+injected 'getrandom:retval=4' "${small[@]}"
+[ "$got" -eq 0 ] || wrong "short reads of the random source end with $got"
+[ "$(grep -c getrandom trace)" -ge $((1 + 3 * 16)) ] || wrong "short reads of the random source do not go on"
+removed
 for call in 'getrandom:error=ENOSYS' 'getrandom:error=EIO:when=2' 'getrandom:retval=0'; do
     injected "$call" "${small[@]}"
     [ "$got" -eq 3 ] || wrong "$call ends with $got"

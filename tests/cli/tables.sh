@@ -13,7 +13,7 @@ taken() {
     ends 0 share some.job a b "t$folders"
     answer "t$folders" "ta$folders"
     ends 0 decode "t$folders" "tt$folders" "ta$folders"/*
-    [ "$(cat "tt$folders")" = $'14\n32' ] || wrong "another table for $1"
+    [ "$(sed 's/.*\t//' "tt$folders")" = $'14\n32' ] || wrong "another table for $1"
 }
 # A table is refused in words: unfit TEXT WORDS [OPTION ..]
 unfit() {
@@ -33,6 +33,9 @@ taken '"1","2",3\n4,5,"6"\n'
 unfit '' 'a: rows: 0, expected 2'
 unfit '1 2 3\n' 'a: rows: 1, expected 2'
 unfit '1 2 3\n4 5 6\n7 8 9\n' 'a, line 3: a row more than the 2'
+unfit '1 2 3\n4 5 6\n\n7 8 9\n' 'a, line 4: a row more than the 2'
+unfit '1,2,3\n4,5,6\n,\n' 'a, line 3: a row more than the 2'
+unfit '1,2,3\n4,5,6\n""\n' 'a, line 3: a row more than the 2'
 unfit '1 2 3\n4 5\n' 'a, line 2: 2 of 3 cells'
 unfit '1 2 3\n4 5 6 6\n' 'a, line 2: more than 3 cells'
 unfit '1 2 3\n\n4 5 6\n' 'a, line 2: 1 of 3 cells'
@@ -50,6 +53,7 @@ unfit '1,2,3\n4,4294967553,6\n' 'line 2, column 2: 4294967553: refused with 14'
 unfit '1,2,3\n4,99999999999999999999999,6\n' 'line 2, column 2: "99999999999999999999999" is too large'
 unfit '1,2,3\n4,129,6\n' 'line 2, column 2: 129: refused with 25' --signed
 unfit '1,2,3\n4,-129,6\n' 'line 2, column 2: -129: refused with 25' --signed
+unfit '1,2,3\n4,18446744073709551615,6\n' 'line 2, column 2: 18446744073709551615: refused with 25' --signed
 unfit '1,2,3\n4,"5,6\n' 'line 2, column 2: a quoted cell that is not closed'
 unfit '1,2,3\n4,"5"5,6\n' 'line 2, column 2: something stands after a closing quote'
 unfit '1,2,3\n4,5"5",6\n' 'line 2, column 2: a quote inside a cell'
@@ -57,6 +61,11 @@ unfit '1,2,3\r4,5,6\r' 'line 1: a lone CR'
 unfit '1,2,3\n4,\0005,6\n' 'line 2: a byte 0'
 unfit '\377\3761\000' 'UTF-16'
 unfit '1,2,3\n4,\377,6\n' 'line 2: no UTF-8'
+# With blanks between cells a name must stand in quotes: else a number that is lost could be made up for by a part of a name.
+printf 'names_a = rows\n' >>some.job
+taken '"lot 1" 1 2 3\n"lot 2" 4 5 6\n'
+unfit '"lot 1" 1 2 3\nlot2 4 5 6\n' 'line 2, column 1: with blanks between cells a name must stand in quotes, or use tabs'
+unfit 'oxeye 12 2 3\n"cowslip" 4 5 6\n' 'line 1, column 1: with blanks between cells a name must stand in quotes'
 head -c 67108865 /dev/zero | tr '\0' ' ' >large
 ends 1 share some.job large b none
 says 'large: more than 67108864 bytes'
@@ -86,6 +95,16 @@ done
 paste <(cut -f 1-2 counts.tsv) <(cut -f 4 counts.tsv) <(cut -f 3 counts.tsv) <(cut -f 5- counts.tsv) >swapped.tsv
 ends 1 share --transpose-b kinship.job swapped.tsv counts.tsv none
 says 'marker 2 is "m3" in swapped.tsv and "m2" in counts.tsv'
+sed 's/m2/M2/' counts.tsv >swapped.tsv
+ends 1 share --transpose-b kinship.job swapped.tsv counts.tsv none
+says 'marker 2 is "M2" in swapped.tsv and "m2" in counts.tsv'
+sed 's/m2/m2 /' counts.tsv >swapped.tsv
+ends 1 share --transpose-b kinship.job swapped.tsv counts.tsv none
+says 'marker 2 is "m2 " in swapped.tsv and "m2" in counts.tsv'
+printf 'm1\t1\nm3\t1\nm2\t1\nm4\t1\nm5\t1\nm6\t1\n' >upright.tsv
+sed 's/= 4 6 4/= 4 6 1/; s/names_b = both/names_b = rows/' kinship.job >upright.job
+ends 1 share upright.job counts.tsv upright.tsv none
+says 'marker 2 is "m2" in counts.tsv and "m3" in upright.tsv'
 sed 's/m3/m2/' counts.tsv >twice.tsv
 ends 1 share --transpose-b kinship.job twice.tsv twice.tsv none
 says 'twice.tsv, line 1, column 4: the name "m2" is given twice, first in line 1, column 3'
@@ -112,6 +131,11 @@ bound 257 0 '16 16' '16 0'
 bound 257 1 '16 1' '16 1'
 says 'as large as 257, and prime 257 brings back no entry above 256; prime = 65537 would do'
 bound 257 0 '16 1' '16 1' --wrap
+says 'warning: --wrap: entries may be no whole numbers'
+answer "bound$folders" wrapped
+ends 0 decode "bound$folders" wrappedtable wrapped/*
+says 'shared with --wrap: entries are remainders by 257, and may be no whole numbers'
+[ "$(cat wrappedtable)" = 0 ] || wrong "another table of remainders"
 bound 257 0 '-16 0' '8 0' --signed
 bound 257 1 '-16 1' '8 1' --signed
 says 'as large as 129, and prime 257 brings back no size above 128; prime = 65537 would do'
@@ -127,6 +151,14 @@ bound 2147483647 0 '-1073741823 0' '1 1' --signed
 bound 2147483647 1 '-1073741823 1' '1 1' --signed
 bound 2147483647 1 '2147483646 2147483646' '2147483646 2147483646'
 says 'as large as 9223372019674906632, and prime 2147483647 brings back no entry above 2147483646; no prime would do'
+job 'prime = 257' 'sizes = 3 2 2' 'cuts = 1 1 1' 'groups = 1 1' 'hosts = 3'
+printf '1 1\n16 16\n1 1\n' >a
+printf '0 8\n8 1\n' >b
+ends 0 share some.job a b "bound$((folders += 1))"
+says 'no entry of A times B is larger than 256'
+printf '0 8\n8 9\n' >b
+ends 1 share some.job a b none
+says 'as large as 272'
 bound 13 0 '12 0' '1 5'
 bound 13 1 '12 1' '1 1'
 bound 13 0 '-6 0' '1 5' --signed

@@ -17,7 +17,10 @@ pub struct Matrix {
 }
 
 /// What may stand at the end of a name: letters that must be quoted among it.
-const TAILS: [&str; 9] = ["", "", "", " b", ", c", "; d", " \"e\"", "\tf", " \u{e9}"];
+#[rustfmt::skip]
+const TAILS: [&str; 12] = [
+    "", "", "", " b", ", c", "; d", " \"e\"", "\tf", " \u{e9}", "\\g", " \n h", "\\u{41}",
+];
 
 /// Names, each once.
 pub fn drawn_names(random: &mut Random, what: &str, count: u32) -> Vec<String> {
@@ -100,12 +103,16 @@ impl Matrix {
     }
 
     /// The table as some program may have written it: with any separator and line end, with or without a
-    /// mark at the front, in quotes where they must be and elsewhere by chance.
+    /// mark at the front, in quotes where they must be, as names between blanks, and elsewhere by chance.
     pub fn some_text(&self, random: &mut Random) -> String {
         let separator = ["\t", ";", ",", " "][random.index(4)];
         let end = ["\n", "\r\n"][random.index(2)];
         let mark = ["", "\u{feff}"][random.index(2)];
-        let must = |cell: &str| cell.contains(['"', '\t', ';', ',', ' ']);
+        let is_name = |cell: &str| cell.parse::<i64>().is_err();
+        let must = |cell: &str| {
+            let alone = separator == " " && is_name(cell);
+            alone || cell.contains(['"', '\t', ';', ',', ' ', '\n'])
+        };
         let mut cell = |cell: String| match must(&cell) || random.within(0, 9) == 0 {
             true => quoted(&cell),
             false => cell,
@@ -119,11 +126,12 @@ impl Matrix {
     }
 
     /// The table as the command must write it: tabs between cells, an empty corner, and in quotes the
-    /// names with a tab or a quote in them, or, in a line without tabs, with any separator.
+    /// names with a tab, a quote or a line end in them, or, in a line without tabs, with any separator.
     pub fn due_text(&self) -> String {
         let alone = self.columns == 1 && self.row_names.is_empty();
-        let must =
-            |cell: &str| cell.contains(['"', '\t']) || alone && cell.contains([';', ',', ' ']);
+        let must = |cell: &str| {
+            cell.contains(['"', '\t', '\n']) || alone && cell.contains([';', ',', ' '])
+        };
         let cell = |cell: &String| match must(cell) {
             true => quoted(cell),
             false => cell.clone(),
