@@ -146,7 +146,7 @@ impl<'a> Reader<'a> {
             if name.trim().is_empty() {
                 return Err(self.fault(&cell, "an empty cell; expected a name"));
             }
-            if self.cells.by_blanks() && !cell.quoted {
+            if self.cells.by_blanks() && self.width() > 1 && !cell.quoted {
                 let why = "with blanks between cells a name must stand in quotes, or use tabs";
                 return Err(self.fault(&cell, why));
             }
