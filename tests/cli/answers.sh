@@ -149,16 +149,18 @@ ends 1 decode edited d7 answers4/0[3-9].mdo
 says 'edited/job: it is not as `mukerihe share` wrote it'
 { cat whole; echo; } >edited/job
 ends 1 decode edited d7 answers4/0[3-9].mdo
-python3 - whole >edited/job <<'PYTHON'
-import pathlib, sys
-text = pathlib.Path(sys.argv[1]).read_text().replace("row_names = 4\n", "row_names = 5\nname = one more\n")
-body = text[: text.rindex("sums = ")]
-one = two = 0
-for byte in body.encode():
-    one += byte
-    two += one
-print(f"{body}sums = {one} {two}")
-PYTHON
+# With more or fewer names than rows, and right sums: summed gives the sums of what it reads.
+summed() {
+    python3 -c '
+import itertools, sys
+body = sys.stdin.read()
+sums = list(itertools.accumulate(body.encode()))
+print(f"{body}sums = {sums[-1]} {sum(sums)}")'
+}
+sed '$d' whole | summed | cmp -s - whole || wrong "other sums"
+sed '$d; s/^row_names = 4$/row_names = 5\nname = one more/' whole | summed >edited/job
+ends 1 decode edited d7 answers4/0[3-9].mdo
+sed '$d; s/^row_names = 4$/row_names = 3/' whole | sed '0,/^name = /{/^name = /d}' | summed >edited/job
 ends 1 decode edited d7 answers4/0[3-9].mdo
 rm edited/job
 ends 3 decode edited d7 answers4/0[3-9].mdo

@@ -111,11 +111,12 @@ for at in 1 2 3; do
 done
 
 # All files and folders are synced: 7 files and 6 folders of share, a file and its folder of multiply, 2 files and 2 times the folder
-# of decode. And no name is taken away once the file has its own: another run may have taken it meanwhile.
+# of decode. Each file is made new; and no name is taken away once the file has its own: another run may have taken it meanwhile.
 synced() {
     strace -f -o trace "$MUKERIHE" "${@:2}" >said 2>&1 || wrong "${*:2}"
     [ "$(grep -c fsync trace)" -eq "$1" ] || wrong "${*:2}: other than $1 syncs"
     ! grep -q unlink trace || wrong "${*:2} removes something"
+    ! grep O_CREAT trace | grep -qv O_EXCL || wrong "${*:2} may open a file that is there"
     tried=$((tried + 1))
 }
 synced 13 "${small[@]}"

@@ -108,6 +108,8 @@ says 'marker 2 is "m2" in counts.tsv and "m3" in upright.tsv'
 sed 's/m3/m2/' counts.tsv >twice.tsv
 ends 1 share --transpose-b kinship.job twice.tsv twice.tsv none
 says 'twice.tsv, line 1, column 4: the name "m2" is given twice, first in line 1, column 3'
+sed 's/m3/M2/' counts.tsv >alike.tsv
+ends 0 share --transpose-b kinship.job alike.tsv alike.tsv alike
 sed 's/lot 31/lot 12/' counts.tsv >twice.tsv
 ends 1 share --transpose-b kinship.job twice.tsv counts.tsv none
 says 'twice.tsv, line 3, column 1: the name "oxeye daisy, lot 12" is given twice'
