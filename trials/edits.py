@@ -122,7 +122,9 @@ def tried(folder):
     edits = sorted(folder.glob("*/*.edit"))
     crates = sorted({edit.parent.name for edit in edits})
     shutil.rmtree(LOGS, ignore_errors=True)
-    subprocess.run(["rt", "check", *crates], cwd=ROOT, check=True, stdout=subprocess.DEVNULL)
+    ran = subprocess.run(["rt", "check", *crates], cwd=ROOT, stdout=subprocess.PIPE, stderr=subprocess.STDOUT, text=True)
+    if ran.returncode != 0:
+        sys.exit(f"edits: the crates are not proved as they are:\n{ran.stdout[-2000:]}")
     with tempfile.TemporaryDirectory() as room:
         rooms = Rooms(Path(room), crates)
         with ThreadPoolExecutor(rooms.count) as pool:
