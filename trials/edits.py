@@ -24,6 +24,9 @@ LOGS = ROOT / "target" / "trials"
 # What becomes of an edit.
 REFUSED, SURVIVED, UNFIT = "refused", "NOT REFUSED", "BAD EDIT"
 
+# A room is a copy of all that is proved, some 400 MB.
+MOST_ROOMS = 4
+
 LINE = re.compile(r"^(file|old|new): ?(.*)$")
 
 
@@ -51,18 +54,18 @@ def changed(crate, edit):
             if not old or text.count(old) != 1:
                 return f"its old text does not stand once in {name}"
             file.write_text(text.replace(old, m[2]))
-            pairs += 1
+            old, pairs = "", pairs + 1
     return None if pairs else "it has no pair of old and new"
 
 
 class Rooms:
-    """Copies of the repository, one for each processor; `kept` has what the first check of each crate kept."""
+    """Copies of the repository, one for each processor, four at most; `kept` has what the first check of each crate kept."""
 
     def __init__(self, folder, crates):
         self.kept = folder / "kept"
         self.kept.mkdir()
         self.free = Queue()
-        self.count = os.cpu_count() or 1
+        self.count = min(MOST_ROOMS, len(os.sched_getaffinity(0)))
         for i in range(self.count):
             room = folder / f"room{i}"
             room.mkdir()
@@ -82,22 +85,26 @@ class Rooms:
     def first_check(self, crate):
         """Checks a crate as it is, and keeps what the check keeps."""
         room = self.free.get()
-        status, said = self.check(room, crate)
-        if status != 0:
-            sys.exit(f"edits: {crate} is not proved as it is:\n{said.decode()[-2000:]}")
-        shutil.move(room / "target" / "inc" / crate, self.kept / crate)
-        self.free.put(room)
+        try:
+            status, said = self.check(room, crate)
+            if status != 0:
+                sys.exit(f"edits: {crate} is not proved as it is:\n{said.decode()[-2000:]}")
+            shutil.move(room / "target" / "inc" / crate, self.kept / crate)
+        finally:
+            self.free.put(room)
 
     def try_edit(self, edit):
         """Tries an edit, prints what becomes of it, and keeps its log."""
         crate, label, began = edit.parent.name, edit.stem, time.monotonic()
         room = self.free.get()
-        copy(self.kept / crate, room / "target" / "inc" / crate)
-        verdict, more = self.verdict(room, crate, edit)
-        shutil.rmtree(room / "target" / "inc" / crate)
-        shutil.rmtree(room / "crates" / crate)
-        copy(ROOT / "crates" / crate, room / "crates" / crate)
-        self.free.put(room)
+        try:
+            copy(self.kept / crate, room / "target" / "inc" / crate)
+            verdict, more = self.verdict(room, crate, edit)
+            shutil.rmtree(room / "target" / "inc" / crate)
+            shutil.rmtree(room / "crates" / crate)
+            copy(ROOT / "crates" / crate, room / "crates" / crate)
+        finally:
+            self.free.put(room)
         print(f"edits: {crate}/{label}: {verdict}{more} ({time.monotonic() - began:.1f} s)", flush=True)
         return f"{crate}/{label}", verdict
 
@@ -126,7 +133,7 @@ def tried(folder):
     if ran.returncode != 0:
         sys.exit(f"edits: the crates are not proved as they are:\n{ran.stdout[-2000:]}")
     with tempfile.TemporaryDirectory() as room:
-        rooms = Rooms(Path(room), crates)
+        rooms = Rooms(Path(room).resolve(), crates)
         with ThreadPoolExecutor(rooms.count) as pool:
             return dict(pool.map(rooms.try_edit, edits))
 

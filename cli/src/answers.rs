@@ -43,7 +43,7 @@ pub struct Answer {
 pub struct Given {
     pub operands: Vec<OsString>,
     pub answers: Vec<Answer>,
-    pub minuted: bool,
+    minuted: bool,
     pub page: Option<PathBuf>,
 }
 

@@ -3,7 +3,6 @@
 //!   Check    V and A(BV), with their columns
 //!   columns  how many columns V has for a prime
 //!   Matrix   a matrix with its columns
-//!   product  a product of any size, made of the library's products
 //!
 //! A wrong table passes with odds of one in q to the number of columns, below 2^-40.
 
@@ -38,7 +37,7 @@ pub struct Matrix<'a> {
 }
 
 /// A product of two matrices, band by band of the first.
-pub fn product(modulus: u32, left: Matrix, right: Matrix) -> Result<Vec<u32>, u32> {
+fn product(modulus: u32, left: Matrix, right: Matrix) -> Result<Vec<u32>, u32> {
     let mut out = Vec::new();
     for band in left.elements.chunks((SIDE * left.columns).max(1)) {
         let columns = left.columns;

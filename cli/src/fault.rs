@@ -13,7 +13,7 @@ use std::io::{stderr, Write};
 
 /// What ends the command early.
 pub struct Fault {
-    pub status: u8,
+    status: u8,
     pub text: String,
 }
 

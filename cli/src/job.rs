@@ -91,9 +91,24 @@ impl Job {
         })
     }
 
-    /// How many hosts would be enough where there are too few: the first number of hosts with which
-    /// the plan is not refused for being too few, unless it is refused for being too many.
+    /// How many hosts would be enough where there are too few, in words.
     fn more_hosts(&self) -> String {
+        let larger = Job {
+            modulus: primes::last(),
+            ..self.clone()
+        };
+        match (self.enough_hosts(), larger.enough_hosts()) {
+            (Some(hosts), _) => format!(" ({hosts} hosts would do)"),
+            (None, Some(hosts)) => format!(" ({hosts} hosts with a larger prime would do)"),
+            (None, None) => {
+                " (no number of hosts would do: fewer cuts or smaller groups)".to_string()
+            }
+        }
+    }
+
+    /// The first number of hosts with which the plan is not refused for being too few, unless it is
+    /// refused for being too many.
+    fn enough_hosts(&self) -> Option<u32> {
         let with = |hosts: u32| {
             let points: Vec<u32> = (1..=hosts).collect();
             let job = Job {
@@ -102,16 +117,10 @@ impl Job {
             };
             (hosts, sys::plan(&job.words(), &points))
         };
-        let first = (self.hosts.saturating_add(1)..=MOST_POINTS)
-            .map(with)
-            .find(|(_, planned)| *planned != Err(TOO_FEW_HOSTS));
-        match first {
-            None | Some((_, Err(BAD_HOSTS))) => {
-                let other = "fewer cuts, smaller groups or a larger prime";
-                format!(" (no number of hosts would do: {other})")
-            }
-            Some((hosts, _)) => format!(" ({hosts} hosts would do)"),
-        }
+        let mut counts = (self.hosts.saturating_add(1)..=MOST_POINTS).map(with);
+        let first = counts.find(|(_, planned)| *planned != Err(TOO_FEW_HOSTS));
+        let (hosts, planned) = first?;
+        Some(hosts).filter(|_| planned != Err(BAD_HOSTS))
     }
 }
 

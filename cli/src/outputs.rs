@@ -71,25 +71,30 @@ pub fn place_of(path: &Path) -> Done<(PathBuf, &OsStr)> {
     Ok((folder.to_path_buf(), name))
 }
 
+/// The fault of a name that could not be given.
+fn not_named(new: &Path, error: &io::Error) -> Fault {
+    match error.kind() {
+        ErrorKind::AlreadyExists => there_already(new),
+        _ => failed(new, error),
+    }
+}
+
 /// Renames where the file system has no call that never replaces: a folder replaces nothing but an
 /// empty folder that came meanwhile, and a file gets its new name as a second one.
-fn rename_in_steps(old: &Path, new: &Path) -> io::Result<()> {
-    if fs::symlink_metadata(old)?.is_dir() {
-        return fs::rename(old, new);
+fn rename_in_steps(old: &Path, new: &Path) -> Done<()> {
+    let about = fs::symlink_metadata(old).map_err(|error| failed(old, &error))?;
+    if about.is_dir() {
+        return fs::rename(old, new).map_err(|error| not_named(new, &error));
     }
-    fs::hard_link(old, new)?;
-    fs::remove_file(old)
+    fs::hard_link(old, new).map_err(|error| not_named(new, &error))?;
+    fs::remove_file(old).map_err(|error| made_all_the_same(failed(old, &error), new))
 }
 
 /// Gives a file or folder its final name; one that has it already is not replaced.
 pub fn give_name(old: &Path, new: &Path) -> Done<()> {
-    let renamed = sys::rename(old, new).or_else(|error| match error.raw_os_error() {
+    sys::rename(old, new).or_else(|error| match error.raw_os_error() {
         Some(EINVAL | ENOSYS) => rename_in_steps(old, new),
-        _ => Err(error),
-    });
-    renamed.map_err(|error| match error.kind() {
-        ErrorKind::AlreadyExists => there_already(new),
-        _ => failed(new, &error),
+        _ => Err(not_named(new, &error)),
     })
 }
 
@@ -142,7 +147,7 @@ impl NewFile {
         let (file, temporary) = temporary_file(&folder, name)?;
         let new = NewFile {
             temporary,
-            path: path.to_path_buf(),
+            path: folder.join(name),
             folder,
             named: false,
         };
@@ -199,8 +204,16 @@ pub struct NewFolder {
 }
 
 impl NewFolder {
-    /// Makes the folder under its temporary name. One that is there was left by a run that was
-    /// killed, or another run is at work.
+    /// Nothing has the folder's name, nor its temporary one: that was left by a run that was killed,
+    /// or another run is at work.
+    pub fn must_be_free(path: &Path) -> Done<()> {
+        must_be_free(path)?;
+        let (beside, name) = place_of(path)?;
+        let temporary = beside.join(hidden(name));
+        must_be_free(&temporary).map_err(|_| no_file(left_over(&temporary)))
+    }
+
+    /// Makes the folder under its temporary name.
     pub fn make(path: &Path) -> Done<NewFolder> {
         must_be_free(path)?;
         let (beside, name) = place_of(path)?;
@@ -274,12 +287,12 @@ fn left_over(path: &Path) -> String {
     )
 }
 
-/// Warns of what other runs that were killed, or are at work, have beside a path.
+/// Warns of what runs that were killed, or are at work, have beside a path.
 pub fn warn_of_left_overs(path: &Path) -> Done<()> {
-    let (beside, name) = place_of(path)?;
+    let (beside, _) = place_of(path)?;
     let entries = fs::read_dir(beside).into_iter().flatten().flatten();
-    let other = |found: &OsStr| contains(found, UNFINISHED) && found != hidden(name);
-    for entry in entries.filter(|entry| other(&entry.file_name())) {
+    let unfinished = |name: &OsStr| contains(name, UNFINISHED);
+    for entry in entries.filter(|entry| unfinished(&entry.file_name())) {
         warn(&left_over(&entry.path()))?;
     }
     Ok(())

@@ -1,6 +1,7 @@
 //! The primes of the sheet, as the library knows them.
 //!
 //!   primes      all primes, from the smallest on; the first has modulus number 1
+//!   last        the modulus number of the largest prime
 //!   modulus_of  the modulus number of a prime
 //!   prime_of    the prime of a modulus number
 //!   whole       the largest entry that comes back whole, as an element or by its signed reading
@@ -17,6 +18,11 @@ pub fn prime_of(modulus: u32) -> Option<u32> {
 /// All primes; the first has modulus number 1.
 pub fn primes() -> Vec<u32> {
     (1..).map_while(prime_of).collect()
+}
+
+/// The modulus number of the largest prime.
+pub fn last() -> u32 {
+    u32::try_from(primes().len()).unwrap_or(u32::MAX)
 }
 
 /// The modulus number of a prime.

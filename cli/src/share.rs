@@ -7,7 +7,7 @@ use crate::bound;
 use crate::check::{self, Check};
 use crate::fault::{refused, warn, Done};
 use crate::job::{self, count, length, Job, JobFile, Names, Plan};
-use crate::outputs::{made_all_the_same, must_be_free, warn_of_left_overs, NewFolder};
+use crate::outputs::{made_all_the_same, warn_of_left_overs, NewFolder};
 use crate::plan::{message_bytes, plan_line};
 use crate::primes;
 use crate::random::{self, Source};
@@ -257,7 +257,7 @@ fn make(path: &Path, text: &str, sharing: &Sharing, source: &Source, mut told: T
 /// Shares a job.
 pub fn run(arguments: Vec<OsString>) -> Done<()> {
     let (wanted, [job_path, a_path, b_path, path]) = Wanted::read(arguments)?;
-    must_be_free(&path)?;
+    NewFolder::must_be_free(&path)?;
     warn_of_left_overs(&path)?;
     let mut file = job::read(&job_path)?;
     let plan = file.job.plan(&shown(&job_path))?;

@@ -8,7 +8,7 @@
 //!   Side         which matrix is shared
 //!   share        a host's share of A or of B
 //!   write        a message
-//!   read         a message's fields and elements
+//!   read         a message's fields
 //!   arrive       an answer taken into the store
 //!   decode       the table
 //!   multiply     a product of elements
@@ -16,6 +16,9 @@
 //!   element      the way back
 //!   page         a table as lines of text
 //!   answer       a host's whole part
+//!   JOB_WORDS, FIELD_WORDS
+//!                how many words a job and a message's fields have
+//!   MOST_MESSAGE the bytes of the longest message
 //!
 //! The system's:
 //!
@@ -60,13 +63,13 @@ pub const JOB_WORDS: usize = 13;
 pub const FIELD_WORDS: usize = 6;
 
 /// How many words the values of a plan have.
-pub const PLAN_WORDS: usize = 5;
+const PLAN_WORDS: usize = 5;
 
 /// The bytes of the longest message.
 pub const MOST_MESSAGE: usize = 16400;
 
 /// The most elements of a block: what `read` wants room for.
-pub const MOST_ELEMENTS: usize = 4096;
+const MOST_ELEMENTS: usize = 4096;
 
 /// For paths as they are: from the folder in which the command was started.
 const AT_FDCWD: c_int = -100;

@@ -1,6 +1,5 @@
 //! Words for every number that the libraries return.
 //!
-//!   words  what a number means
 //!   by     a refusal by a number: the number and its words
 //!   BAD_HOSTS, TOO_FEW_HOSTS, FOREIGN, ANSWER_DIFFERS, TOO_FEW_HEARD, TOO_FEW_WORDS, OUTSIDE_WINDOW
 //!          the numbers that the command has more to say about
@@ -27,7 +26,7 @@ pub const TOO_FEW_WORDS: u32 = 27;
 pub const OUTSIDE_WINDOW: u32 = 30;
 
 /// What a number means.
-pub fn words(number: u32) -> &'static str {
+fn words(number: u32) -> &'static str {
     match number {
         1 => "no such modulus number",
         2 => "a size is not 1 to 16384",

@@ -77,7 +77,7 @@ unfit 'refused with 8: more answers are needed than there are hosts (no number o
 job "${base[@]/257/13}"
 sed -i 's/groups = .*/groups = 5 5/' some.job
 ends 1 plan some.job
-says 'refused with 8: more answers are needed than there are hosts (no number of hosts would do: fewer cuts, smaller groups or a larger prime)'
+says 'refused with 8: more answers are needed than there are hosts (13 hosts with a larger prime would do)'
 unfit 'refused with 29' "${base[@]}" 'opening = 7' 'closing = 7'
 unfit 'refused with 8' "${base[@]:0:4}" 'points = 1 2 0'
 unfit 'refused with 10' "${base[@]:0:4}" 'points = 1 2 3 4 5 6 257'

@@ -60,7 +60,15 @@ for output in one counts.tsv pipe folder dangling; do
     ends 3 decode --page "$output" one none "${seven[@]}"
     ends 3 multiply one/send/01/*.a.mdo one/send/01/*.b.mdo "$output"
 done
-# A page in the place of the table, however it is written.
+# What a killed run of another name left beside the table is named.
+mkdir .other.mukerihe-unfinished
+ends 0 decode one named "${seven[@]}"
+says 'warning: ./.other.mukerihe-unfinished is there'
+rmdir .other.mukerihe-unfinished
+
+# A name with a slash after it is the name; a page in the place of the table, however it is written.
+ends 0 decode --page slashedpage/ one slashed/ "${seven[@]}"
+cmp -s slashed table.due && cmp -s slashedpage page.due || wrong "a table and a page with a slash after them"
 ends 2 decode --page ./none one none "${seven[@]}"
 ends 2 decode --page none one folder/../none "${seven[@]}"
 ends 2 decode --page "$PWD/none" one none "${seven[@]}"

@@ -161,6 +161,14 @@ for run in "share some.job a b stepped" "decode one stepped answers/01.mdo answe
     rm -r stepped
 done
 
+# The file has its name then, and the temporary one stays at first: the command says so, and tries once more to remove it.
+(strace -f -o trace -e inject=renameat2:error=EINVAL -e inject=unlink:error=EIO:when=1 "$MUKERIHE" decode one stepped answers/*) >said 2>&1
+[ $? -eq 3 ] && cmp -s stepped table.due || wrong "a second name that is not removed"
+says 'stepped is made all the same'
+nothing_unfinished "a second name that is not removed"
+rm stepped
+tried=$((tried + 1))
+
 # A name that is taken while the command is at work: it waits at its first sync. With and without such a call.
 for call in fsync renameat2; do
     delayed=(-e 'inject=fsync:delay_enter=900000:when=1')

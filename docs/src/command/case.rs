@@ -33,6 +33,14 @@ pub struct Case {
     b: Matrix,
 }
 
+/// A side with the kind of its messages, the rows and columns of its blocks, its matrix and its masks.
+struct ShareSide {
+    side: Side,
+    kind: u32,
+    sizes: [u32; 2],
+    contents: Contents,
+}
+
 /// Two matrices that can be multiplied, with numbers up to a size, each with names by chance.
 fn drawn_tables(random: &mut Random, job: &Job, most: u32, signed: bool) -> [Matrix; 2] {
     let mut a = Matrix::drawn(random, [job.t, job.s], most, signed);
@@ -164,45 +172,44 @@ impl Case {
         }
     }
 
+    /// The message of a host's share of a side, of a kind and with blocks of so many rows and columns.
+    fn message(&self, host: u32, side: &ShareSide) -> Vec<u8> {
+        let call = sharing(&self.job, &self.points, side.side, &side.contents, host);
+        let [rows, columns] = side.sizes;
+        let fields = Fields {
+            kind: side.kind,
+            modulus: self.job.modulus,
+            host,
+            rows,
+            columns,
+            job_number: self.number,
+        };
+        written(&fields, &share(&call).expect("a fit share"))
+    }
+
     /// Writes the messages of all hosts: A's masks are drawn first, then B's.
     fn write_messages(&self, folder: &str) {
         let (job, number) = (&self.job, self.number);
         let words = &mut self.words.clone();
         let [rows, inner, columns] = [job.t / job.m, job.s / job.p, job.r / job.n];
-        let sides = [
-            (
-                Side::A,
-                "a",
-                1,
-                [rows, inner],
-                self.contents(Side::A, &self.a, words),
-            ),
-            (
-                Side::B,
-                "b",
-                2,
-                [inner, columns],
-                self.contents(Side::B, &self.b, words),
-            ),
-        ];
+        let a = ShareSide {
+            side: Side::A,
+            kind: 1,
+            sizes: [rows, inner],
+            contents: self.contents(Side::A, &self.a, words),
+        };
+        let b = ShareSide {
+            side: Side::B,
+            kind: 2,
+            sizes: [inner, columns],
+            contents: self.contents(Side::B, &self.b, words),
+        };
         for host in 1..=job.hosts {
             let place = format!("{folder}/send/{host:02}");
             create_dir_all(&place).expect("the folder cannot be made");
-            for (side, letter, kind, [rows, columns], contents) in &sides {
-                let elements = share(&sharing(job, &self.points, *side, contents, host));
-                let fields = Fields {
-                    kind: *kind,
-                    modulus: job.modulus,
-                    host,
-                    rows: *rows,
-                    columns: *columns,
-                    job_number: number,
-                };
-                let message = written(&fields, &elements.expect("a fit share"));
-                save(
-                    &format!("{place}/{number:08x}-{host:02}.{letter}.mdo"),
-                    &message,
-                );
+            for (letter, side) in [("a", &a), ("b", &b)] {
+                let name = format!("{place}/{number:08x}-{host:02}.{letter}.mdo");
+                save(&name, &self.message(host, side));
             }
         }
     }
