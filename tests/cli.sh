@@ -1,5 +1,5 @@
 #!/usr/bin/env bash
-# Tries the command: every part of tests/cli, two at a time.
+# Tries the command: the parts of tests/cli, two at a time.
 #
 #   tests/cli.sh MUKERIHE REFERENCE    MUKERIHE is the built command, REFERENCE the Rust program of docs/src
 #
@@ -13,5 +13,8 @@ MUKERIHE=$(realpath "$1")
 REFERENCE=$(realpath "$2")
 cd "$(dirname "$0")/cli"
 
-find . -name '*.sh' ! -name common.sh | sort | xargs -P 2 -n 1 bash || { echo "cli: something is not as expected" >&2; exit 1; }
+# By their names, so that none is lost unseen; and none stands there that is not named.
+parts=(answers arguments files injected kinship largest random_jobs tables)
+[ "$(ls)" = "$(printf '%s.sh\n' "${parts[@]}" common | sort)" ] || { echo "cli: other parts in tests/cli than ${parts[*]}" >&2; exit 1; }
+printf '%s.sh\n' "${parts[@]}" | xargs -P 2 -n 1 bash || { echo "cli: something is not as expected" >&2; exit 1; }
 echo "cli: all as expected"
