@@ -1,4 +1,6 @@
 // Arrivals: a host's answer is taken into the store, and its host counts as heard; or it is in already; or it is refused.
+#![tactic(auto)]
+
 ghost use Rattle.std.specs.Prelude.{◌≡◌, cond, ◌+◌, ◌*◌, ◌≤◌, length};
 ghost use Rattle.refusal.specs.Chain.{first};
 ghost use Rattle.refusal.specs.Limits.{most_elements};
@@ -25,7 +27,7 @@ use message_header::{ANSWER, HEADER_BYTES, Header};
 use plan::{Job, Planned};
 
 // What an arrival returns: the hosts heard after it; that the message is in already; or the number of the refusal.
-#[derive(Drop)]
+#[derive(Clone, Copy)]
 pub enum Arrived {
     Taken(u64),
     AlreadyIn,

@@ -1,4 +1,6 @@
 // The hosts heard: one u64, with bit i - 1 for host i. An index counts from 0: host i has index i - 1.
+#![tactic(auto)]
+
 ghost use Rattle.std.specs.Prelude.{◌≡◌, ◌++◌, length, drop};
 ghost use Rattle.arrival_heard.specs.Heard.{is_heard, some_above, lowest};
 

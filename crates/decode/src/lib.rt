@@ -1,4 +1,6 @@
 // Decoding: the table is interpolated from the answers of the K lowest-numbered hosts heard.
+#![tactic(auto)]
+
 ghost use Rattle.std.specs.Prelude.{◌≡◌, map, ◌*◌, ◌≤◌, length, get_or};
 ghost use Rattle.algebra.specs.Lists.{tab, AllBelow};
 ghost use Rattle.refusal.specs.Chain.{first};

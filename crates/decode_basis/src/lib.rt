@@ -1,4 +1,6 @@
 // Lagrange's basis polynomials, each by one division of the product of all roots.
+#![tactic(auto)]
+
 ghost use Rattle.std.specs.Prelude.{◌≡◌, [], ◌∷◌, ◌+◌, ◌-◌, ◌*◌, ◌%◌, length, get_or};
 ghost use Rattle.algebra.specs.Lists.{tab};
 ghost use Rattle.algebra.specs.Polynomials.{add_root};

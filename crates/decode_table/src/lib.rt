@@ -1,4 +1,6 @@
 // Tables put together from answers: each block of the table is a sum of some hosts' answers, each times its weight.
+#![tactic(auto)]
+
 ghost use Rattle.std.specs.Prelude.{◌≡◌, ◌*◌, ◌%◌, ◌^◌, ◌<◌, ◌≤◌, length, drop};
 ghost use Rattle.algebra.specs.Lists.{tab};
 ghost use Rattle.refusal.specs.Chain.{outside};
@@ -12,7 +14,7 @@ use field::Modulus;
 use words::least;
 
 // The table: grid_rows by grid_columns blocks, each block_rows by block_columns.
-#[derive(Drop)]
+#[derive(Clone, Copy)]
 pub struct Shape {
     pub grid_rows: usize,
     pub grid_columns: usize,

@@ -1,10 +1,12 @@
 // The prime field: modulus numbers, elements, products and powers.
+#![tactic(auto)]
+
 ghost use Rattle.std.specs.Prelude.{◌≡◌, ◌*◌, ◌^◌, ◌%◌};
 ghost use Rattle.algebra.specs.Lists.{all_below};
 ghost use Rattle.field.specs.Modulus.{prime, named};
 
 // The moduli of 01 and 02: each is the prime in its name.
-#[derive(Drop)]
+#[derive(Clone, Copy)]
 pub enum Modulus {
     Q13,
     Q257,
@@ -13,7 +15,7 @@ pub enum Modulus {
 }
 
 // What a modulus number stands for.
-#[derive(Drop)]
+#[derive(Clone, Copy)]
 pub enum Named {
     Is(Modulus),
     Unknown,

@@ -1,4 +1,6 @@
 // Inverses in the prime field.
+#![tactic(auto)]
+
 ghost use Rattle.std.specs.Prelude.{◌≡◌};
 ghost use Rattle.algebra.specs.Modular.{inverse};
 ghost use Rattle.field.specs.Modulus.{prime};

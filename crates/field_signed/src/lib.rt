@@ -1,18 +1,20 @@
 // Elements as signed whole numbers (01, "Signed reading").
+#![tactic(auto)]
+
 ghost use Rattle.std.specs.Prelude.{◌≡◌};
 ghost use Rattle.field_signed.specs.Signed.{signed_outcome, element_outcome};
 
 use field::Named;
 
 // What signed reading returns.
-#[derive(Drop)]
+#[derive(Clone, Copy)]
 pub enum Signed {
     Value(i64),
     Refused(u32),
 }
 
 // What the way back returns.
-#[derive(Drop)]
+#[derive(Clone, Copy)]
 pub enum Element {
     Value(u32),
     Refused(u32),

@@ -1,5 +1,7 @@
 // Layouts: the exponents of blocks and masks, the places of the table, the number of answers needed, and a layout's number.
 // The numbers of cuts and the group sizes are u8, so that every exponent fits a u32 and nothing has to be refused here.
+#![tactic(auto)]
+
 ghost use Rattle.std.specs.Prelude.{◌≡◌, ◌+◌, ◌-◌, ◌*◌, ◌^◌, ◌<◌};
 ghost use Rattle.layout.specs.Exponents.{exponents, layout3, number, choice};
 ghost use Rattle.layout.specs.Internal.{exponent_by, Follows, Nested};
@@ -7,7 +9,7 @@ ghost use Rattle.layout.specs.Internal.{exponent_by, Follows, Nested};
 use std::num::wrapping_add_u32;
 
 // How the matrices are cut, m by p and p by n blocks, and the largest groups kept ignorant of A and of B.
-#[derive(Drop)]
+#[derive(Clone, Copy)]
 pub struct Parameters {
     pub m: u8,
     pub p: u8,
@@ -17,7 +19,7 @@ pub struct Parameters {
 }
 
 // The layouts of 01, "Exponents", and the third of 02, U2.
-#[derive(Drop)]
+#[derive(Clone, Copy)]
 pub enum Layout {
     First,
     Second,
@@ -25,7 +27,7 @@ pub enum Layout {
 }
 
 // The exponents that a layout gives: of blocks by row and column, of masks by number, and the places of the table's blocks.
-#[derive(Drop)]
+#[derive(Clone, Copy)]
 pub enum Series {
     BlocksA,
     MasksA,
@@ -36,7 +38,7 @@ pub enum Series {
 
 // What a layout's exponents are made of: the strides of A's rows and B's columns of blocks, the first masks' exponents, p, and
 // the number of answers needed. They are worked out once a call, by strides_of.
-#[derive(Drop)]
+#[derive(Clone, Copy)]
 pub struct Strides {
     pub stride_a: u16,
     pub mask_a: u32,
@@ -47,7 +49,7 @@ pub struct Strides {
 }
 
 // A layout of an outer side, which has the larger stride, and an inner side, whose stride is p.
-#[derive(Drop)]
+#[derive(Clone, Copy)]
 struct Nest {
     stride: u16,
     outer_mask: u32,

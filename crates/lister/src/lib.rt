@@ -1,5 +1,7 @@
 // The plan lister: reads a job's ten numbers as a line of text, and gives the text of its plan.
 // A function put_.. writes from an offset of the buffer on and returns the offset behind.
+#![tactic(auto)]
+
 ghost use Rattle.std.specs.Prelude.{◌≡◌, ◌∷◌, [], ◌++◌, suc, ◌≤◌, length, drop};
 ghost use Rattle.algebra.specs.Lists.{tab, grid};
 ghost use Rattle.layout.specs.Internal.{exponent_by};
@@ -27,7 +29,7 @@ pub const LISTING_ROOM: usize = 4096;
 const MOST_POINTS: usize = refusal::MOST_HOSTS as usize;
 
 // What the line of a side shows: its label, the series of its blocks, so many down and across, and that of its masks.
-#[derive(Drop)]
+#[derive(Clone, Copy)]
 struct SideLine {
     label: u8,
     blocks: Series,

@@ -1,4 +1,6 @@
 // A line of ten numbers, read byte by byte.
+#![tactic(auto)]
+
 ghost use Rattle.std.specs.Prelude.{◌≡◌};
 ghost use Rattle.lister_line.specs.Internal.{separator, goes_on, is_digit, grows, takes_digit, takes_end, step};
 ghost use Rattle.lister_line.specs.Line.{line_of};
@@ -23,7 +25,7 @@ const FIVE_DIGITS: u32 = 10000;
 
 // What an input is as a line of ten numbers: whether it is one, and its numbers.
 // Of an input that is none, the numbers that end before its fault, and 0 for the others.
-#[derive(Drop)]
+#[derive(Clone, Copy)]
 pub struct Line {
     pub ok: bool,
     pub numbers: [u32; NUMBERS],
@@ -31,7 +33,7 @@ pub struct Line {
 
 // How far a line is read: whether it has no fault so far; the present number, where it is begun; how many numbers have
 // ended, and these.
-#[derive(Drop)]
+#[derive(Clone, Copy)]
 struct Progress {
     ok: bool,
     begun: bool,

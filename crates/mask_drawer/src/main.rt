@@ -1,5 +1,7 @@
 // Masks drawn from random words: reads a modulus number, how many elements are wanted, and the words, in plain text. Prints how
 // many words were used, and the elements; or what is wrong. README.md, "Masks from random words", tells the format.
+#![tactic(auto)]
+
 ghost use Rattle.std.specs.Prelude.{◌≡◌, length};
 
 use libc::STDIN_FILENO;

@@ -1,4 +1,6 @@
 // Masks drawn from random words (02, U3). `specs/Drawing.antt` tells how.
+#![tactic(auto)]
+
 ghost use Rattle.std.specs.Prelude.{◌≡◌, [], ◌∷◌, ◌+◌, ◌%◌, ltb, length};
 ghost use Rattle.refusal.specs.Chain.{first, outcome};
 ghost use Rattle.field.specs.Modulus.{prime};
@@ -15,7 +17,7 @@ const ALL_WORDS: u64 = 0x1_0000_0000;
 const PART: usize = 256;
 
 // What a drawing returns: how many words were used, or the number of the refusal.
-#[derive(Drop)]
+#[derive(Clone, Copy)]
 pub enum Drawn {
     Used(usize),
     Refused(u32),

@@ -1,4 +1,6 @@
 // Messages, version 1: writing, looking over, reading.
+#![tactic(auto)]
+
 ghost use Rattle.std.specs.Prelude.{◌≡◌, length};
 ghost use Rattle.refusal.specs.Chain.{first};
 ghost use Rattle.message.specs.Format.{write_tests, written, examined, read_as, read_into};
@@ -6,7 +8,7 @@ ghost use Rattle.message.specs.Format.{write_tests, written, examined, read_as, 
 use message_header::{Checked, HEADER_BYTES, Header, Opened};
 
 // What looking a message over and reading it return: its fields, or the number of the first test that holds.
-#[derive(Drop)]
+#[derive(Clone, Copy)]
 pub enum Parsed {
     Fields(Header),
     Refused(u32),

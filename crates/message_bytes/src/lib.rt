@@ -1,4 +1,6 @@
 // Elements as bytes: they travel as 4 bytes each, big-endian. They are read, written, and tested or compared where they stand.
+#![tactic(auto)]
+
 ghost use Rattle.std.specs.Prelude.{◌≡◌, ◌++◌, ◌+◌, ◌*◌, ◌/◌, ◌≤◌, min, length, take, drop};
 ghost use Rattle.algebra.specs.Lists.{all_below, same};
 ghost use Rattle.field.specs.Modulus.{prime};

@@ -1,4 +1,6 @@
 // The header of a message, version 1: its fields, their tests, and its 16 bytes.
+#![tactic(auto)]
+
 ghost use Rattle.std.specs.Prelude.{◌≡◌, length, ◌≤◌};
 ghost use Rattle.refusal.specs.Chain.{outside as chain_outside, differs};
 ghost use Rattle.message_bytes.specs.Bytes.{number_at};
@@ -10,7 +12,7 @@ use refusal::outside;
 use words::{low_byte, pair, word};
 
 // A message's fields: kind 1 is an A share, 2 a B share, 3 an answer; number is the job number.
-#[derive(Drop)]
+#[derive(Clone, Copy)]
 pub struct Header {
     pub kind: u32,
     pub modulus: u32,
@@ -21,14 +23,14 @@ pub struct Header {
 }
 
 // What the tests of the fields return: the modulus that the fields name, or the number of the first test that holds.
-#[derive(Drop)]
+#[derive(Clone, Copy)]
 pub enum Checked {
     Fit(Modulus),
     Refused(u32),
 }
 
 // What reading a header returns: the fields and the modulus that they name, or the number of the first test that holds.
-#[derive(Drop)]
+#[derive(Clone, Copy)]
 pub enum Opened {
     Fields(Header, Modulus),
     Refused(u32),

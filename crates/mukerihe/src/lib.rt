@@ -1,5 +1,7 @@
 // The host's part for a partner's C program: the product alone, big-endian bytes in and out; and the whole part, messages in and
 // out.
+#![tactic(auto)]
+
 ghost use Rattle.std.specs.Prelude.{◌≡◌, ◌++◌, ◌/◌, ◌≤◌, min, length, drop};
 ghost use Rattle.refusal.specs.Chain.{first, unless_refused};
 ghost use Rattle.refusal.specs.Limits.{most_elements};
@@ -17,7 +19,7 @@ use message_header::{A_SHARE, ANSWER, B_SHARE, HEADER_BYTES, Header};
 const FEW_ELEMENTS: usize = 256;
 
 // The numbers of a call: the modulus number, and the sizes of the product, rows by inner times inner by columns.
-#[derive(Drop)]
+#[derive(Clone, Copy)]
 struct Numbers {
     modulus: u32,
     rows: u32,

@@ -1,5 +1,7 @@
 // The bank's calls for a C program: planning, drawing masks, sharing, messages, arrivals, decoding, the product on elements, signed
 // reading and the page. Each hands its call on to the crate of the call.
+#![tactic(auto)]
+
 ghost use Rattle.std.specs.Prelude.{◌≡◌, length};
 ghost use Rattle.refusal.specs.Chain.{first, unless_refused};
 ghost use Rattle.field.specs.Modulus.{modulus as modulus_modulus};

@@ -1,5 +1,7 @@
 // The kinship page (02, U6): a table as lines of text. `specs/Page.antt` tells how.
 // A function put_.. writes from an offset of the buffer on and returns the offset behind.
+#![tactic(auto)]
+
 ghost use Rattle.std.specs.Prelude.{◌≡◌, ◌||◌, [], ◌+◌, ◌*◌, ◌<◌, ◌≤◌, length};
 ghost use Rattle.algebra.specs.Lists.{tab};
 ghost use Rattle.refusal.specs.Chain.{first, outside};

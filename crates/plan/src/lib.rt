@@ -1,4 +1,6 @@
 // Planning: a job's numbers and points are tested, and the layout and the number of answers needed are worked out.
+#![tactic(auto)]
+
 ghost use Rattle.std.specs.Prelude.{◌≡◌, ◌≤◌, length, take};
 ghost use Rattle.refusal.specs.Chain.{first};
 ghost use Rattle.plan.specs.Planning.{
@@ -20,7 +22,7 @@ use refusal::{any_outside, outside, over_block, sizes_outside};
 // A job: eleven public numbers and a window. A is t by s and B is s by r; A is cut into m by p blocks, B into p by n; xa and xb
 // are the largest groups kept ignorant of A and of B; number is the job number. Answers are taken from the minute opening on and
 // up to the one before the minute closing.
-#[derive(Drop)]
+#[derive(Clone, Copy)]
 pub struct Job {
     pub modulus: u32,
     pub t: u32,
@@ -38,7 +40,7 @@ pub struct Job {
 }
 
 // A job's public numbers without a window.
-#[derive(Drop)]
+#[derive(Clone, Copy)]
 pub struct Table {
     pub modulus: u32,
     pub t: u32,
@@ -55,7 +57,7 @@ pub struct Table {
 
 // What an accepted job has: its modulus, its layout with the cuts and group sizes, the sizes of its blocks (an A block is
 // rows by inner, a B block inner by columns, an answer rows by columns), and the number of answers needed.
-#[derive(Drop)]
+#[derive(Clone, Copy)]
 pub struct Plan {
     pub modulus: Modulus,
     pub layout: Layout,
@@ -67,7 +69,7 @@ pub struct Plan {
 }
 
 // What planning returns.
-#[derive(Drop)]
+#[derive(Clone, Copy)]
 pub enum Planned {
     Accepted(Plan),
     Refused(u32),

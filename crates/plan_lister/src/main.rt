@@ -1,4 +1,6 @@
 // The plan lister as a program: one line of ten numbers on standard input, the plan or a refusal on standard output.
+#![tactic(auto)]
+
 use libc::{STDIN_FILENO, STDOUT_FILENO};
 
 fn main() {

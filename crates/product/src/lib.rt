@@ -1,4 +1,6 @@
 // The host's block product: A share times B share, modulo the prime.
+#![tactic(auto)]
+
 ghost use Rattle.std.specs.Prelude.{◌≡◌, not, ◌||◌, ◌*◌, ◌≤◌, length};
 ghost use Rattle.algebra.specs.Lists.{AllBelow, all_below};
 ghost use Rattle.refusal.specs.Chain.{first, differs};
@@ -11,7 +13,7 @@ use field::{Modulus, Named};
 use words::{least, wide_product};
 
 // The sizes of a product: rows by inner times inner by columns.
-#[derive(Drop)]
+#[derive(Clone, Copy)]
 struct Sizes {
     rows: usize,
     inner: usize,

@@ -1,4 +1,6 @@
 // Lines to standard output, for the programs over plain text. What is printed is not proved, but compared.
+#![tactic(auto)]
+
 use libc::STDOUT_FILENO;
 
 // Prints some bytes.

@@ -1,4 +1,6 @@
 // Refusals: the numbers of 01, "What is turned down", and of 02, and the tests that several calls share.
+#![tactic(auto)]
+
 ghost use Rattle.std.specs.Prelude.{◌≡◌, ◌*◌, ltb};
 ghost use Rattle.refusal.specs.Chain.{outside as chain_outside};
 ghost use Rattle.refusal.specs.Limits.{most_elements, any_outside, sizes_outside, over_block};

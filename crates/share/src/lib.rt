@@ -1,4 +1,6 @@
 // Sharing: the masked block of a matrix that a host gets.
+#![tactic(auto)]
+
 ghost use Rattle.std.specs.Prelude.{◌≡◌, ◌++◌, ◌≤◌, length, drop};
 ghost use Rattle.refusal.specs.Chain.{first, unless_refused};
 ghost use Rattle.field.specs.Modulus.{prime};

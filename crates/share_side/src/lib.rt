@@ -1,4 +1,6 @@
 // The sides of a job, and the weights of their blocks and masks at a host's point.
+#![tactic(auto)]
+
 ghost use Rattle.std.specs.Prelude.{◌≡◌};
 ghost use Rattle.field.specs.Modulus.{prime};
 ghost use Rattle.share_side.specs.Internal.{plan_side, weighed};
@@ -12,7 +14,7 @@ use words::least;
 const MOST_NUMBERED: usize = 256;
 
 // Which matrix is shared.
-#[derive(Drop)]
+#[derive(Clone, Copy)]
 pub enum Matrix {
     A,
     B,
@@ -20,7 +22,7 @@ pub enum Matrix {
 
 // A side: its grid of blocks, rows by columns; a block, rows by columns; the number of its masks; and the series of the
 // exponents of its blocks and masks.
-#[derive(Drop)]
+#[derive(Clone, Copy)]
 pub struct Side {
     pub grid_rows: usize,
     pub grid_columns: usize,

@@ -1,4 +1,6 @@
 // Rows of sums of 64 bits: set to 0 before terms are added, and reduced once, at the end.
+#![tactic(auto)]
+
 ghost use Rattle.std.specs.Prelude.{◌≡◌};
 ghost use Rattle.field.specs.Modulus.{prime};
 ghost use Rattle.sums.specs.Internal.{zeros, reduced};

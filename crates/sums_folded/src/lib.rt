@@ -1,5 +1,7 @@
 // Linear combinations of rows modulo 2^31 - 1, added to sums of 64 bits: two rows at a time, and each pair of products is folded,
 // since no more than four products of elements fit 64 bits.
+#![tactic(auto)]
+
 ghost use Rattle.std.specs.Prelude.{◌≡◌, ◌*◌};
 ghost use Rattle.sums_folded.specs.Internal.{fold as contracts_fold, folded, paired_two, paired_added};
 

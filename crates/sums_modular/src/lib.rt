@@ -1,4 +1,6 @@
 // Linear combinations of rows modulo each prime, added to sums of 64 bits: the one place that picks how rows are added.
+#![tactic(auto)]
+
 ghost use Rattle.std.specs.Prelude.{◌≡◌};
 ghost use Rattle.field.specs.Modulus.{prime};
 ghost use Rattle.sums_modular.specs.Internal.{large, plus_one, plus_two, added};

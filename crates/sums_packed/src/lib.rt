@@ -1,4 +1,6 @@
 // Two rows of small numbers as one, so that the sums of their multiples are made at once.
+#![tactic(auto)]
+
 ghost use Rattle.std.specs.Prelude.{◌≡◌};
 ghost use Rattle.field.specs.Modulus.{prime};
 ghost use Rattle.sums.specs.Internal.{reduced};

@@ -1,4 +1,6 @@
 // Linear combinations of rows, added to sums of 64 bits.
+#![tactic(auto)]
+
 ghost use Rattle.std.specs.Prelude.{◌≡◌, ◌≤◌, length};
 ghost use Rattle.sums_rows.specs.Internal.{plus, added};
 

@@ -1,6 +1,8 @@
 // Runs plans, shares, products, messages, signed reading, drawings of masks, pages and a host's whole part on many inputs: cases
 // come from standard input, one after another, and what they return goes to standard output. Both are those of the separate Rust
 // program, whose docs/src/calls/format.rs tells their format.
+#![tactic(auto)]
+
 ghost use Rattle.std.specs.Prelude.{◌≡◌, ◌≤◌, length};
 ghost use Rattle.io.specs.Counts.{IsPrefixLen};
 
@@ -14,7 +16,7 @@ use share::Matrix;
 use words::least;
 
 // Where the lists of a case end, one after another.
-#[derive(Drop)]
+#[derive(Clone, Copy)]
 struct Ends {
     points: usize,
     xs: usize,

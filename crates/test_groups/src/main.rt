@@ -1,6 +1,8 @@
 // Every group: the sheet's lister job, of 20 hosts with 17 needed, is decoded from each of its 1,140 groups of 17, in three
 // orders of arrival, every answer sent twice and a third time with another element, under three sets of masks. Prints one line
 // with the counts.
+#![tactic(auto)]
+
 ghost use Rattle.std.specs.Prelude.{◌≡◌, ◌<◌, ◌≤◌, length};
 
 use arrival::Arrived;

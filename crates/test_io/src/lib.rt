@@ -1,4 +1,6 @@
 // Words and bytes of cases, from standard input and to standard output. A word is 4 bytes, big-endian.
+#![tactic(auto)]
+
 ghost use Rattle.std.specs.Prelude.{◌≡◌, ◌≤◌, length, drop};
 ghost use Rattle.io.specs.Counts.{IsPrefixLen};
 

@@ -1,6 +1,8 @@
 // Runs whole jobs on many inputs: calls of arrivals and decodings come from standard input, one after another, and what
 // they return goes to standard output. Both are those of the separate Rust program, whose docs/src/jobs/format.rs tells their
 // format.
+#![tactic(auto)]
+
 ghost use Rattle.std.specs.Prelude.{◌≡◌, length};
 
 use arrival::Arrived;

@@ -1,6 +1,8 @@
 // Runs the plan lister on many inputs, one after another: each case is a length of two bytes, big-endian, and as many
 // bytes of input. What the lister prints goes to standard output. The cases and the outputs are those of the separate
 // Rust program in docs/src.
+#![tactic(auto)]
+
 ghost use Rattle.std.specs.Prelude.{◌≤◌, ◌<◌, length};
 
 use libc::{STDIN_FILENO, STDOUT_FILENO};

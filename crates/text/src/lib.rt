@@ -1,4 +1,6 @@
 // Text in a buffer: bytes, and numbers in decimal.
+#![tactic(auto)]
+
 ghost use Rattle.std.specs.Prelude.{◌≡◌, ◌-◌, length};
 ghost use Rattle.algebra.specs.Lists.{tab};
 ghost use Rattle.text.specs.Decimal.{decimal};

@@ -1,5 +1,7 @@
 // Whole numbers and words read from plain text, and positions in a text by line and column. `specs/Numbers.antt` and
 // `specs/Words.antt` have the format.
+#![tactic(auto)]
+
 ghost use Rattle.std.specs.Prelude.{◌≡◌, true, ◌<◌, ◌^◌, length, take, drop};
 ghost use Rattle.text_numbers.specs.Numbers.{
   within,
@@ -54,21 +56,21 @@ const UNDERSCORE: u8 = 95;
 const LIMIT: u64 = 4294967296;
 
 // What reading a text returns: how many numbers were read, or the offset of the first fault.
-#[derive(Drop)]
+#[derive(Clone, Copy)]
 pub enum ReadOutcome {
     Read(usize),
     Fault(usize),
 }
 
 // A position in a text, with line and column from 1.
-#[derive(Drop)]
+#[derive(Clone, Copy)]
 pub struct Position {
     pub line: usize,
     pub column: usize,
 }
 
 // Where in a text a byte stands: whether in a comment, whether after some digits of a number, and their value, or 0.
-#[derive(Drop)]
+#[derive(Clone, Copy)]
 struct Part {
     comment: bool,
     begun: bool,
@@ -76,7 +78,7 @@ struct Part {
 }
 
 // What stands before a byte of a text: whether a comment, whether a token that goes on.
-#[derive(Drop)]
+#[derive(Clone, Copy)]
 struct Before {
     comment: bool,
     token: bool,

@@ -12,7 +12,7 @@ use words::least;
 
 // The turn of a host: the job, the sizes of its blocks, the number of answers needed, the host's number, the minute of its
 // answer, and the hosts heard before.
-#[derive(Drop)]
+#[derive(Clone, Copy)]
 pub(crate) struct Turn {
     pub(crate) job: Job,
     pub(crate) sizes: Sizes,

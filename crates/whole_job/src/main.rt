@@ -2,6 +2,8 @@
 // text, and does all that the bank and the hosts do: plans, shares, multiplies, sends every block as a message, takes the
 // answers in the order given, and decodes. Prints the plan, what became of each answer, the table, its signed reading, and the
 // kinship page. README.md, "A whole job from plain text", tells the format and every line that is printed.
+#![tactic(auto)]
+
 mod arrivals; // the answers taken, and the hosts heard
 mod hosts; // what a host does with its shares
 mod lines; // the numbers of a line

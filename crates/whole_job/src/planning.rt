@@ -13,7 +13,7 @@ const JOB_NUMBERS: usize = 13;
 
 // A planned job: its numbers, the sizes of its blocks, the number of answers needed, and where the numbers of each section of
 // its text start, with the end of the last.
-#[derive(Drop)]
+#[derive(Clone, Copy)]
 pub(crate) struct Whole {
     pub(crate) job: Job,
     pub(crate) sizes: Sizes,
@@ -23,7 +23,7 @@ pub(crate) struct Whole {
 
 // What becomes of a text: a job that is planned, with the sizes of its blocks and the number of answers needed; or
 // something is wrong, which is printed.
-#[derive(Drop)]
+#[derive(Clone, Copy)]
 pub(crate) enum Prepared {
     Full(Job, Sizes, u32),
     Wrong,

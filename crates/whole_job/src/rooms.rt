@@ -91,7 +91,7 @@ fn block_size(rows: u32, columns: u32) -> usize
 }
 
 // The sizes of a job's blocks: an A block is rows by inner, a B block inner by columns, an answer rows by columns.
-#[derive(Drop)]
+#[derive(Clone, Copy)]
 pub(crate) struct Sizes {
     pub(crate) rows: u32,
     pub(crate) inner: u32,

@@ -31,7 +31,7 @@ pub(crate) const MOST_TEXT: usize = 65536;
 
 // What reading a section returns: the offset after it, and how many numbers are read by then; or that something is wrong,
 // which is printed.
-#[derive(Drop)]
+#[derive(Clone, Copy)]
 enum Read {
     Done(usize, usize),
     Wrong,

@@ -1,4 +1,6 @@
 // Machine words: the leaf operations on numbers that the crates above share.
+#![tactic(auto)]
+
 ghost use Rattle.std.specs.Prelude.{◌≡◌, ◌+◌, ◌*◌, ◌%◌, min, get_or};
 
 // The smaller of two numbers.
