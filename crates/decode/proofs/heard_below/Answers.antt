@@ -1,0 +1,84 @@
+-- `decode::heard_below` meets its contract.
+use mathlib.Core.Path.{◌≡◌, sym, ap, ◌∙◌}
+use mathlib.Core.Bool.{not}
+use mathlib.Core.Logic.{⊎_elim}
+use Prim.Native.Nat.{◌+◌, ◌-◌, ◌*◌, ◌≤◌}
+use native.Mathlib.Nat.{add-sub_cancel_left, mul-le-mul}
+use native.Mathlib.Omega.{arith}
+use lib.ListN.{length}
+use Rattle.algebra.specs.Lists.{all_below}
+use Rattle.algebra.proofs.Orders.{row_end}
+use Rattle.algebra.proofs.Tests.{neither}
+use Rattle.field.specs.Modulus.{prime}
+use Rattle.arrival.specs.Arriving.{block_at}
+use Rattle.decode.specs.Decoding.{heard_below}
+use Rattle.decode.proofs.Stored.{heard_none, heard_more, heard_skip}
+use Rattle.decode.proofs.heard_below.Goals as goal
+use Rattle.decode.proofs.heard_below.Goals.{Then-is_heard}
+
+pub loop-index-init : goal.loop-index-init
+loop-index-init c =
+    let a = c.args in
+    record { is = heard_none (prime a.modulus) a.size a.heard a.store.now; short = omega arith }
+
+-- the host's block lies in the store
+inside : (c : Then-is_heard
+    → (c.loop-index.index * c.args.size + c.args.size
+    ≤ length c.args.store.now)
+    × (length c.args.store.now ≤ 262144)
+inside c =
+    let most = mul-le-mul c.requires.1 c.requires.0 in
+    (omega (arith, row_end c.args.size c.loop-index-test.true, c.requires), omega (arith, c.requires))
+
+pub overflow_cast-start : goal.overflow_cast-start
+overflow_cast-start c = omega arith
+
+pub overflow_mul-start : goal.overflow_mul-start
+overflow_mul-start c = let i = inside c in omega arith
+
+pub overflow_add-end : goal.overflow_add-end
+overflow_add-end c = let i = inside c in omega arith
+
+pub offset_bounds-store-start : goal.offset_bounds-store-start
+offset_bounds-store-start c = let i = inside c in omega arith
+
+pub slice_bounds-all_below-count : goal.slice_bounds-all_below-count
+slice_bounds-all_below-count c = let i = inside c in omega arith
+
+pub slice_bounds-all_below-start : goal.slice_bounds-all_below-start
+slice_bounds-all_below-start c = let i = inside c in omega arith
+
+pub slice_bounds-all_below-end : goal.slice_bounds-all_below-end
+slice_bounds-all_below-end c = let i = inside c in omega arith
+
+pub overflow_add-index : goal.overflow_add-index
+overflow_add-index c = omega arith
+
+pub loop-index-smaller : goal.loop-index-smaller
+loop-index-smaller c = omega arith
+
+pub loop-index-preserved : goal.loop-index-preserved
+unfolding block_at
+loop-index-preserved c =
+    let a = c.args in
+    let q = prime a.modulus in
+    let i = c.loop-index.index in
+    record {
+      is =
+          ⊎_elim
+          (λ w.
+          let tested : w.2.result ≡ all_below q (block_at a.size a.store.now i) = rw add-sub_cancel_left at w.2.ensures in
+          ap not w.3
+          ∙ neither c.loop-index.over (not w.2.result)
+          ∙ heard_more q a.size a.heard a.store.now i (not c.loop-index.over) c.loop-index.invariant.is w.2.result (sym c.is_heard.ensures ∙ w.0.taken) tested)
+          (λ w.
+          ap not w.1 ∙ heard_skip q a.size a.heard a.store.now i (not c.loop-index.over) c.loop-index.invariant.is (sym c.is_heard.ensures ∙ w.0.left))
+          c.if-is_heard.branch;
+      short = omega arith;
+    }
+
+pub returns : goal.returns
+returns c =
+    let a = c.args in
+    let all : c.loop-index.index ≡ a.hosts = omega arith in
+    c.loop-index.invariant.is ∙ ap (heard_below (prime a.modulus) a.size a.heard a.store.now) all

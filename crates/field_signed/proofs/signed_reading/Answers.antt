@@ -1,0 +1,53 @@
+-- `field::signed_reading` meets its contract: the number, the element, and then the two halves.
+use mathlib.Core.Path.{sym, ap, ◌∙◌}
+use Prim.Native.Nat.{ℕ, ◌<◌}
+use native.Mathlib.Omega.{arith}
+use mir.Facts.{to_z-of_z}
+use Rattle.field_signed.specs.declared.Signed.{Signed}
+use Rattle.field_signed.specs.Signed.{half}
+use Rattle.field.proofs.Moduli.{Known, known, none_named}
+use Rattle.field_signed.proofs.Readings.{signed_low, signed_high}
+use Rattle.field_signed.proofs.Outcomes.{signed_unknown, signed_above, signed_value}
+use Rattle.field_signed.proofs.Words.{word, difference, fitting}
+use Rattle.field_signed.proofs.signed_reading.Goals as goal
+use Rattle.field_signed.proofs.signed_reading.Goals.{After-prime_of-q, Start}
+
+pub returns-in_default : goal.returns-in_default
+returns-in_default c =
+    let a = c.args in
+    sym (signed_unknown a.number a.v (none_named a.number (sym c.modulus_named.ensures ∙ c.in_default.is)))
+
+abbrev start : After-prime_of-q → Start
+start c = c.before.before.before.before.before
+
+abbrev v : After-prime_of-q → ℕ
+v c = (start c).args.v
+
+abbrev q : After-prime_of-q → ℕ
+q c = c.prime_of-q.result
+
+known-q : (c : After-prime_of-q) → Known (start c).args.number (q c)
+known-q c = known _ (sym c.modulus_named.ensures ∙ c.in-Is.is) c.prime_of-q.ensures
+
+pub returns-then-q-v : goal.returns-then-q-v
+returns-then-q-v c = sym (signed_above (known-q c.before) (v c.before) (omega arith))
+
+pub overflow_sub-top : goal.overflow_sub-top
+overflow_sub-top c = omega (arith, (known-q c.before).is_prime.above_one)
+
+pub returns-then-v-top : goal.returns-then-v-top
+unfolding half
+returns-then-v-top c =
+    let k = known-q c.before.before in
+    let l : v c.before.before < q c.before.before = omega arith in
+    ap Signed.Value (word (start c.before.before).ranges.v ∙ sym (signed_low (q c.before.before) (v c.before.before) (omega arith))) ∙ sym (signed_value k (v c.before.before) l)
+
+pub overflow_sub-result : goal.overflow_sub-result
+overflow_sub-result c = search fitting
+
+pub returns : goal.returns
+unfolding half
+returns c =
+    let k = known-q c.before.before in
+    let l = c.if-q-v.false in
+    ap Signed.Value (to_z-of_z (overflow_sub-result c) ∙ difference (start c.before.before).ranges.v (record { fits = c.prime_of-q.type-inv }) l ∙ sym (signed_high (q c.before.before) (v c.before.before) c.if-v-top.false l)) ∙ sym (signed_value k (v c.before.before) l)

@@ -1,0 +1,35 @@
+-- `lister::list` meets its contract.
+use mathlib.Core.Path.{◌≡◌, sym, ap, ◌∙◌}
+use Prim.Native.Nat.{suc}
+use borrow.Author.Tests.{not-true, not-false}
+use Rattle.algebra.specs.Lists.{tab}
+use Rattle.plan.specs.declared.Table.{Table}
+use Rattle.plan.specs.declared.Planned.{Planned}
+use Rattle.plan.specs.Planning.{planned, table_job}
+use Rattle.lister_line.specs.declared.Line.{Line}
+use Rattle.lister.specs.Listing.{line_table, reply_text, listing}
+use Rattle.lister.proofs.Replies.{listed, malformed, replied}
+use Rattle.lister.proofs.list.Goals as goal
+use Rattle.lister.proofs.list.Goals.{After-plan_of}
+
+pub returns-then-not-line : goal.returns-then-not-line
+returns-then-not-line c =
+    let not-ok = ap (λ (l : Line). l.ok) (sym c.read_line-line.ensures) ∙ not-true _ c.if-not-line.true in let all = listed c.args.input.now (malformed c.args.input.now not-ok) c.Put-refused.ensures in record { room = all.0; length = all.1.0; text = all.1.1 }
+
+-- the text of what planning returns is what is printed
+reply_is : (c : After-plan_of) {outcome : Planned} → c.plan_of.result ≡ outcome → reply_text c.line_table-table.result.hosts outcome ≡ listing c.args.input.now
+reply_is c {outcome} is =
+    let input = c.args.input.now in
+    let line = c.read_line-line in
+    let ok = ap (λ (l : Line). l.ok) (sym line.ensures) ∙ not-false _ c.if-not-line.false in
+    let table_is = c.line_table-table.ensures ∙ ap (λ (l : Line). line_table l.numbers) line.ensures in
+    ap (λ (t : Table). reply_text t.hosts outcome) table_is
+    ∙ replied input ok (sym is ∙ c.plan_of.ensures ∙ ap (λ (t : Table). planned (table_job t) (tab suc t.hosts)) table_is)
+
+pub returns-in-Accepted : goal.returns-in-Accepted
+unfolding reply_text
+returns-in-Accepted c = let all = listed c.args.input.now (reply_is c.before.before.before.before.before c.in-Accepted.is) c.list_plan.ensures in record { room = all.0; length = all.1.0; text = all.1.1 }
+
+pub returns-in-Refused : goal.returns-in-Refused
+unfolding reply_text
+returns-in-Refused c = let all = listed c.args.input.now (reply_is c.before.before.before.before.before c.in-Refused.is) c.put_refused-in-Refused.ensures in record { room = all.0; length = all.1.0; text = all.1.1 }

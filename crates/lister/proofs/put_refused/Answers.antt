@@ -1,0 +1,9 @@
+-- `lister::put_refused` meets its contract.
+use native.Mathlib.Omega.{arith}
+use Rattle.lister.specs.Listing.{refused_text}
+use Rattle.lister.proofs.Lines.{lists}
+use Rattle.lister.proofs.put_refused.Goals as goal
+
+pub returns : goal.returns
+unfolding refused_text
+returns c = lists (omega arith) c.put_line.ensures

@@ -1,0 +1,19 @@
+-- `mukerihe_bank::mukerihe_write` meets its contract.
+use mathlib.Core.Path.{ap, ◌∙◌}
+use lib.ListN.{length}
+use Rattle.refusal.specs.Chain.{first}
+use Rattle.message_header.specs.declared.Header.{Header}
+use Rattle.message.specs.Format.{write_tests, written}
+use Rattle.mukerihe_bank.proofs.Outcomes.{turned_down, passed_on}
+use Rattle.mukerihe_bank.proofs.mukerihe_write.Goals as goal
+
+pub returns-then-fields-ne-FIELD_WORDS : goal.returns-then-fields-ne-FIELD_WORDS
+returns-then-fields-ne-FIELD_WORDS c = let all = turned_down 6 c.args.fields.now c.if-fields-ne-FIELD_WORDS.true _ _ _ in record { number = all.0; bytes = all.1 }
+
+pub returns : goal.returns
+returns c =
+    let told = c.write_message.ensures in
+    let is = c.header_of.ensures in
+    let a = c.args in let all = passed_on 6 a.fields.now c.if-fields-ne-FIELD_WORDS.false _ _ _
+    (told.0 ∙ ap (λ (x : Header). first (write_tests x a.elements.now (length a.out.now))) is)
+    (told.1 ∙ ap (λ (x : Header). written x a.elements.now a.out.now) is) in record { number = all.0; bytes = all.1 }

@@ -1,0 +1,150 @@
+-- `sums_folded::add_rows` meets its contract.
+use Rattle.std.proofs.Common.{◌≡◌, ℕ, ◌+◌, ◌-◌, ◌*◌, ◌/◌, List, length, get_or, take, drop, ap, ◌∙◌, arith}
+use Rattle.sums.proofs.Steps.{sums_to, length_sums, sums_none, row_entry, rest_more, rest_short}
+use Rattle.sums_folded.specs.Internal.{folded, paired_two}
+use Rattle.sums_folded.proofs.Steps.{pair_terms, pairs_more, pairs_last, row_product, all_pairs}
+use Rattle.sums_folded.proofs.add_rows.Goals as goal
+use Rattle.sums_folded.proofs.add_rows.Goals.{After-slice_known-then-pairs-weights-1}
+
+-- pair c of the rows, in column j
+abbrev terms : List ℕ → List ℕ → ℕ → ℕ → ℕ → ℕ
+terms weights source stride = pair_terms folded (length weights) (row_product weights source stride)
+
+pub loop-c-init : goal.loop-c-init
+loop-c-init c =
+    let a = c.args in
+    let start : 0 ≡ 0 * 2 * a.stride = omega arith in
+    record {
+      is = sums_none a.sums.now (terms a.weights.now a.source.now a.stride) (λ j l. (c.slice_known-1.given j).fits);
+      row = ap (λ (k : ℕ). drop k a.source.now) start;
+      short = omega arith;
+      few = omega arith;
+    }
+
+pub offset_bounds-rest-step : goal.offset_bounds-rest-step
+offset_bounds-rest-step c = omega arith
+
+pub slice_bounds-next-count : goal.slice_bounds-next-count
+slice_bounds-next-count c = omega arith
+
+pub slice_bounds-next-start : goal.slice_bounds-next-start
+slice_bounds-next-start c = omega arith
+
+pub slice_bounds-next-end : goal.slice_bounds-next-end
+slice_bounds-next-end c = omega arith
+
+pub overflow_mul-c : goal.overflow_mul-c
+overflow_mul-c c = omega arith
+
+pub offset_bounds-weights-c : goal.offset_bounds-weights-c
+offset_bounds-weights-c c = omega arith
+
+pub bounds-weights-c : goal.bounds-weights-c
+bounds-weights-c c = omega arith
+
+pub overflow_mul-c-in-loop-c : goal.overflow_mul-c-in-loop-c
+overflow_mul-c-in-loop-c c = omega arith
+
+pub overflow_add-c : goal.overflow_add-c
+overflow_add-c c = omega arith
+
+pub offset_bounds-weights-c-in-loop-c : goal.offset_bounds-weights-c-in-loop-c
+offset_bounds-weights-c-in-loop-c c = omega arith
+
+pub bounds-weights-c-in-loop-c : goal.bounds-weights-c-in-loop-c
+bounds-weights-c-in-loop-c c = omega arith
+
+pub offset_bounds-next-after : goal.offset_bounds-next-after
+offset_bounds-next-after c = omega arith
+
+pub slice_bounds-rest-count : goal.slice_bounds-rest-count
+slice_bounds-rest-count c = omega arith
+
+pub slice_bounds-rest-start : goal.slice_bounds-rest-start
+slice_bounds-rest-start c = omega arith
+
+pub slice_bounds-rest-end : goal.slice_bounds-rest-end
+slice_bounds-rest-end c = omega arith
+
+pub overflow_add-c-in-loop-c : goal.overflow_add-c-in-loop-c
+overflow_add-c-in-loop-c c = omega arith
+
+pub loop-c-smaller : goal.loop-c-smaller
+loop-c-smaller c = omega arith
+
+pub loop-c-preserved : goal.loop-c-preserved
+loop-c-preserved c =
+    let a = c.args in
+    let l = c.loop-c in
+    let step = c.least-step in
+    let step2 = c.least-after in
+    let pair = c.add_pair in
+    let next = take (length l.rest.now - step.result) (drop step.result l.rest.now) in
+    let second = rest_more a.source.now l.rest.now (l.c * 2) a.stride step.result l.invariant.row step.ensures in
+    let third = rest_more a.source.now next (l.c * 2 + 1) a.stride step2.result second step2.ensures in
+    let two : l.c * 2 + 1 + 1 ≡ (l.c + 1) * 2 = omega arith in
+    let product = row_entry a.source.now in
+    record {
+      is =
+          pair.ensures
+          ∙ pairs_more folded (length a.weights.now) (row_product a.weights.now a.source.now a.stride) a.sums.now l.sums l.c l.invariant.is
+          _ _ (product l.rest.now a.stride (l.c * 2) l.invariant.row (get_or a.weights.now (l.c * 2) 0))
+          (omega arith) _ _ (product next a.stride (l.c * 2 + 1) second (get_or a.weights.now (l.c * 2 + 1) 0));
+      row = third ∙ ap (λ (n : ℕ). drop (n * a.stride) a.source.now) two;
+      short = rest_short a.source.now _ (l.c * 2 + 1 + 1) a.stride third;
+      few = omega arith;
+    }
+
+pub overflow_mul-pairs : goal.overflow_mul-pairs
+overflow_mul-pairs c = omega arith
+
+pub overflow_mul-pairs-then-pairs-weights : goal.overflow_mul-pairs-then-pairs-weights
+overflow_mul-pairs-then-pairs-weights c = omega arith
+
+pub offset_bounds-weights-pairs : goal.offset_bounds-weights-pairs
+offset_bounds-weights-pairs c = omega arith
+
+pub bounds-weights-pairs : goal.bounds-weights-pairs
+bounds-weights-pairs c = omega arith
+
+-- the sums after an odd last row
+last : (c : After-slice_known-then-pairs-weights-1
+    → let l = c.before.before.before.before.before.before.before in
+    let a = l.before.before.before.before.args in
+    c.add_pair-then-pairs-weights.new.0 ≡ sums_to a.sums.now (terms a.weights.now a.source.now a.stride) (l.loop.c + 1)
+last c =
+    let a = c.args in
+    let even : length a.weights.now / 2 ≡ c.loop-c.c = omega arith in
+    let weight : ℕ → ℕ = λ k. get_or a.weights.now (k * 2) 0 in
+    let rest = c.loop-c.rest.now in
+    c.add_pair-then-pairs-weights.ensures
+    ∙ ap (λ (k : ℕ). paired_two folded c.loop-c.sums (weight k) rest 0 rest) even
+    ∙ pairs_last folded (length a.weights.now) (row_product a.weights.now a.source.now a.stride) a.sums.now c.loop-c.sums c.loop-c.c c.loop-c.invariant.is
+    (weight c.loop-c.c) rest (row_entry a.source.now rest a.stride (c.loop-c.c * 2) c.loop-c.invariant.row (weight c.loop-c.c))
+    (omega arith)
+
+pub shape_of-sums-then-pairs-weights : goal.shape_of-sums-then-pairs-weights
+shape_of-sums-then-pairs-weights c =
+    let a = c.args in
+    ap length (last c) ∙ length_sums a.sums.now (terms a.weights.now a.source.now a.stride) (c.loop-c.c + 1)
+
+pub returns-then-pairs-weights : goal.returns-then-pairs-weights
+returns-then-pairs-weights c =
+    let a = c.args in
+    let half : c.loop-c.c + 1 ≡ (length a.weights.now + 1) / 2 = omega arith in
+    last c
+    ∙ ap (sums_to a.sums.now (terms a.weights.now a.source.now a.stride)) half
+    ∙ all_pairs a.weights.now a.source.now a.stride folded a.sums.now
+
+pub shape_of-sums-else-pairs-weights : goal.shape_of-sums-else-pairs-weights
+shape_of-sums-else-pairs-weights c =
+    let a = c.args in
+    ap length c.loop-c.invariant.is ∙ length_sums a.sums.now (terms a.weights.now a.source.now a.stride) c.loop-c.c
+
+pub returns-else-pairs-weights : goal.returns-else-pairs-weights
+returns-else-pairs-weights c =
+    let a = c.args in
+    let half : c.loop-c.c ≡ (length a.weights.now + 1) / 2 = omega arith in
+    c.loop-c.invariant.is
+    ∙ ap (sums_to a.sums.now (terms a.weights.now a.source.now a.stride)) half
+    ∙ all_pairs a.weights.now a.source.now a.stride folded a.sums.now

@@ -1,0 +1,16 @@
+-- `sums_folded::add_rows` meets its contract.
+use Rattle.std.proofs.Common.{◌≡◌, ◌-◌, ◌*◌, ◌≤◌, length, drop}
+use Rattle.sums.proofs.Steps.{sums_to}
+use Rattle.sums_folded.proofs.add_rows.Given as goal
+
+abbrev pub invariant-loop-c : goal.invariant-loop-c
+invariant-loop-c l =
+    record {
+      is : l.sums ≡ sums_to l.initial.sums (terms l.weights l.source l.stride) l.c;
+      row : l.rest ≡ drop (l.c * 2 * l.stride) l.source;
+      short : length l.rest ≤ length l.source;
+      few : l.c ≤ l.pairs;
+    }
+
+abbrev pub decreases-loop-c : goal.decreases-loop-c
+decreases-loop-c l = l.pairs - l.c

@@ -1,0 +1,11 @@
+-- `sums_folded::pair_term` meets its contract.
+use Rattle.std.proofs.Common.{◌≡◌, ◌+◌, ◌*◌, ◌%◌, ◌^◌, ap, ◌∙◌, arith}
+use Rattle.sums_folded.specs.Internal.{fold, folded}
+use Rattle.sums_folded.proofs.pair_term.Goals as goal
+
+pub returns : goal.returns
+unfolding folded
+returns c =
+    let both : c.wrapping_add_u64.result ≡ (c.args.a * c.args.x + c.args.b * c.args.y) % 2 ^ 64
+    = omega (arith, c.wrapping_add_u64.ensures.value, c.wide_product-2.ensures, c.wide_product.ensures) in
+    c.fold.ensures ∙ ap fold both

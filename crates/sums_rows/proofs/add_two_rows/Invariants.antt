@@ -1,0 +1,11 @@
+-- `sums_rows::add_two_rows` meets its contract.
+use Rattle.std.proofs.Common.{◌≡◌, ◌+◌, ◌-◌, ◌≤◌, ◌++◌, length, drop}
+use Rattle.algebra.specs.Lists.{tab}
+use Rattle.sums_rows.proofs.add_two_rows.Given as goal
+
+abbrev pub invariant-loop-j : goal.invariant-loop-j
+invariant-loop-j l =
+    record { is : l.sums ≡ tab (terms l.initial.sums l.weight l.row l.second l.next) l.j ++ drop l.j l.initial.sums; short : l.j ≤ length l.initial.sums; same : length l.sums ≡ length l.initial.sums }
+
+abbrev pub decreases-loop-j : goal.decreases-loop-j
+decreases-loop-j l = length l.initial.sums - l.j

@@ -1,0 +1,10 @@
+-- `text::put_digits` meets its contract.
+use Prim.Native.Nat.{◌-◌}
+use Rattle.text.proofs.Decimals.{Digits}
+use Rattle.text.proofs.put_digits.Given as goal
+
+abbrev pub invariant-loop-start : goal.invariant-loop-start
+invariant-loop-start l = Digits l.n l.initial.out l.out l.start l.rest
+
+abbrev pub decreases-loop-start : goal.decreases-loop-start
+decreases-loop-start l = l.start
