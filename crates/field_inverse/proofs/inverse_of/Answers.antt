@@ -56,22 +56,22 @@ module _ (c : Then-next-eq0 where
   is-wanted : inverse c.prime_of-q.result c.args.a ≡ wanted
   is-wanted = ap (λ (k : ℕ). inverse k c.args.a) c.prime_of-q.ensures
 
-  at_none : c.loop-next.last-factor ≡ 0 → c.loop-next.last-factor ≡ wanted
+  at_none : c.loop-next.last_factor ≡ 0 → c.loop-next.last_factor ≡ wanted
   at_none none = euclid_none (prime-q c.before.before.before) c.if-next-eq0.true c.loop-next.invariant none ∙ is-wanted
 
-  at-end : 0 < c.loop-next.last-factor
-      → with_sign c.prime_of-q.result c.loop-next.minus c.loop-next.last-factor ≡ wanted
+  at-end : 0 < c.loop-next.last_factor
+      → with_sign c.prime_of-q.result c.loop-next.minus c.loop-next.last_factor ≡ wanted
   at-end some = euclid_end (prime-q c.before.before.before) c.if-next-eq0.true c.loop-next.invariant some ∙ is-wanted
 
 
 pub returns-then-last_factor-gt0 : goal.returns-then-last_factor-gt0
 unfolding with_sign
-returns-then-last_factor-gt0 c = rw c.if-minus.true at (at-end c.before.before (ltb-true 0 c.loop-next.last-factor c.if-last_factor-gt0.true))
+returns-then-last_factor-gt0 c = rw c.if-minus.true at (at-end c.before.before (ltb-true 0 c.loop-next.last_factor c.if-last_factor-gt0.true))
 
 pub returns-else-minus : goal.returns-else-minus
 unfolding with_sign
 returns-else-minus c =
-    let factor = c.loop-next.last-factor in
+    let factor = c.loop-next.last_factor in
     ⊎_elim (λ (none : factor ≤ 0). at_none c.before (omega arith))
     (λ (some : 0 < factor). ⊎_elim (λ w. absurd (omega (arith, ltb-false 0 factor w.1.left))) (λ w. rw w.left at (at-end c.before some)) c.if-minus.branch)
     (le_or_lt factor 0)

@@ -78,7 +78,7 @@ returns-then-value-ge0 c =
     ap Element.Value (ap nat_abs (plain-is c)) ∙ sym (element_value (known-q c.before.before.before) (z c.before.before.before) (inside c.before))
 
 wrapped-is : (c : Else-value-ge0) → to_z w64 (of_z w64 (z c.before.before.before)) +ℤ to_z w64 (q c.before.before.before) ≡ pos (element (q c.before.before.before) (z c.before.before.before))
-wrapped-is c = wrapped (q c.before.before.before) (value_is c.before.before.before) (word (record { fits = c.prime_of-q.type-inv })) (inside c.before) c.if-value-ge0.false
+wrapped-is c = wrapped (q c.before.before.before) (value_is c.before.before.before) (word (record { fits = c.prime_of-q.type_inv })) (inside c.before) c.if-value-ge0.false
 
 pub overflow_add-result : goal.overflow_add-result
 overflow_add-result c = subst (SFits w64) (sym (wrapped-is c)) (record { sfits = omega (arith, small c.before) })

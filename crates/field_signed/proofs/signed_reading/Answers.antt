@@ -50,4 +50,4 @@ unfolding half
 returns c =
     let k = known-q c.before.before in
     let l = c.if-q-v.false in
-    ap Signed.Value (to_z-of_z (overflow_sub-result c) ∙ difference (start c.before.before).ranges.v (record { fits = c.prime_of-q.type-inv }) l ∙ sym (signed_high (q c.before.before) (v c.before.before) c.if-v-top.false l)) ∙ sym (signed_value k (v c.before.before) l)
+    ap Signed.Value (to_z-of_z (overflow_sub-result c) ∙ difference (start c.before.before).ranges.v (record { fits = c.prime_of-q.type_inv }) l ∙ sym (signed_high (q c.before.before) (v c.before.before) c.if-v-top.false l)) ∙ sym (signed_value k (v c.before.before) l)

@@ -7,7 +7,7 @@ use Rattle.layout.proofs.nested.Goals.{After-strided-rows, After-strided-stride}
 -- the stride is small
 small : (c : After-strided-stride) → c.strided-stride.result < 2 ^ 16
 small c =
-    let d = small_stride c.args.inner c.args.p c.args.inner-masks c.ranges.inner.fits c.ranges.p.fits c.ranges.inner-masks.fits in
+    let d = small_stride c.args.inner c.args.p c.args.inner_masks c.ranges.inner.fits c.ranges.p.fits c.ranges.inner_masks.fits in
     omega arith
 
 pub overflow_cast-stride : goal.overflow_cast-stride

@@ -12,6 +12,7 @@ invariant-loop-p l = record {
   short : l.p ≤ panels l.r;
   count_is : l.count ≡ panels l.r;
   is : Writes l.initial.out 0 (stack (λ k. gap k ++ panel l.t l.r l.table k) l.p) l.out l.next;
+}
 
 abbrev pub decreases-loop-p : goal.decreases-loop-p
 decreases-loop-p l = l.count - l.p

@@ -11,6 +11,7 @@ invariant-loop-i l = record {
   short : l.i ≤ l.t;
   wide : l.count ≡ across l.r l.p;
   is : Writes l.initial.out l.initial.next (stack (row l.r l.table l.p) l.i) l.out l.next;
+}
 
 abbrev pub decreases-loop-i : goal.decreases-loop-i
 decreases-loop-i l = l.t - l.i

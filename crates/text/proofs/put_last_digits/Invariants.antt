@@ -12,6 +12,7 @@ invariant-loop-start l = record {
   same : length l.out ≡ length l.initial.out;
   small : l.left < 2 ^ 32;
   is : last_digits l.start l.left ++ drop l.start l.out ≡ last_digits (length l.initial.out) l.n;
+}
 
 abbrev pub decreases-loop-start : goal.decreases-loop-start
 decreases-loop-start l = l.start
