@@ -1,5 +1,5 @@
 -- `field::modulus_named` meets its contract.
-use mathlib.Core.Path.{sym, ap}
+use mathlib.Core.Path.{◌≡◌, sym, ap}
 use native.Mathlib.Omega.{arith}
 use lib.ListN.{length}
 use Rattle.refusal.proofs.Chains.{over}
@@ -25,7 +25,7 @@ returns-in-4 c = sym (ap named c.in-4.is)
 
 pub returns-in-0 : goal.returns-in-0
 unfolding named
-returns-in-0 c = sym (ap named c.in-1.keys5)
+returns-in-0 c = let none : c.args.number ≡ 0 = omega arith in sym (ap named none)
 
 pub returns-in-0-2 : goal.returns-in-0-2
 unfolding no_modulus moduli
