@@ -1,7 +1,7 @@
 -- `sums::reduce_row` meets its contract.
 use mathlib.Core.Path.{◌≡◌, refl, ap, ◌∙◌}
 use mathlib.Core.List.{◌++◌}
-use Prim.Native.Nat.{ℕ, ◌-◌, ◌%◌, min}
+use Prim.Native.Nat.{ℕ, ◌%◌, min}
 use native.Mathlib.Omega.{arith}
 use lib.ListN.{length, get_or, drop, set, length-set}
 use Rattle.algebra.specs.Lists.{tab}
