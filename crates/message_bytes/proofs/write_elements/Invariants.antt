@@ -1,7 +1,7 @@
 -- `message_bytes::write_elements` meets its contract.
 use mathlib.Core.Path.{◌≡◌}
 use mathlib.Core.List.{◌++◌}
-use Prim.Native.Nat.{◌+◌, ◌-◌, ◌*◌, ◌≤◌}
+use Prim.Native.Nat.{◌-◌, ◌*◌, ◌≤◌}
 use lib.ListN.{length, take, drop}
 use Rattle.message_bytes.specs.Bytes.{bytes_of}
 use Rattle.message_bytes.proofs.write_elements.Given as goal
