@@ -27,4 +27,4 @@ returns c =
     let told = c.put_bytes.ensures in
     let digits = c.put_digits-start.ensures in
     let a = c.args in
-    let e = handed a.n _ _ digits.0 digits.1 in record { end = told.0 ∙ ap (λ (bytes : List ℕ). after a.at bytes a.out.now) e; text = told.1 ∙ ap (λ (bytes : List ℕ). put a.out.now a.at bytes) e }
+    let e = handed a.n _ _ digits.start digits.digits in record { end = told.end ∙ ap (λ (bytes : List ℕ). after a.at bytes a.out.now) e; text = told.text ∙ ap (λ (bytes : List ℕ). put a.out.now a.at bytes) e }

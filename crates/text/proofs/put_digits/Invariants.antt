@@ -1,5 +1,4 @@
 -- `text::put_digits` meets its contract.
-use Prim.Native.Nat.{◌-◌}
 use Rattle.text.proofs.Decimals.{Digits}
 use Rattle.text.proofs.put_digits.Given as goal
 

@@ -1,7 +1,7 @@
 -- `text::put_last_digits` meets its contract.
 use mathlib.Core.Path.{◌≡◌}
 use mathlib.Core.List.{◌++◌}
-use Prim.Native.Nat.{◌-◌, ◌^◌, ◌<◌, ◌≤◌}
+use Prim.Native.Nat.{◌^◌, ◌<◌, ◌≤◌}
 use lib.ListN.{length, drop}
 use Rattle.text.specs.Internal.{last_digits}
 use Rattle.text.proofs.put_last_digits.Given as goal
