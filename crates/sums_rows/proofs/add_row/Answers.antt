@@ -1,13 +1,10 @@
 -- `sums_rows::add_row` meets its contract.
-use Rattle.std.proofs.Common.{◌≡◌, ℕ, ◌+◌, ◌-◌, ◌*◌, ◌%◌, ◌^◌, min, List, length, get_or, set, refl, ap, ◌∙◌, arith, length-set}
+use Rattle.std.proofs.Common.{◌≡◌, ℕ, ◌*◌, min, List, length, get_or, set, refl, ap, ◌∙◌, arith, length-set}
 use lib.ListN.{get_or-eq_default}
 use Rattle.algebra.proofs.Fronts.{front_none, front_more, front_old, front_rest}
 use Rattle.sums_rows.specs.Internal.{plus}
+use Rattle.sums_rows.proofs.add_row.Invariants.{term}
 use Rattle.sums_rows.proofs.add_row.Goals as goal
-
--- a sum with its term
-abbrev term : List ℕ → ℕ → List ℕ → ℕ → ℕ
-term sums weight row j = (get_or sums j 0 + weight * get_or row j 0) % 2 ^ 64
 
 pub loop-j-init : goal.loop-j-init
 loop-j-init c = record { is = front_none _ c.args.sums.now; short = omega arith; same = refl }

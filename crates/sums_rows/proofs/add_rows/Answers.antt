@@ -11,7 +11,7 @@ loop-i-init c =
     let a = c.args in
     let start : 0 ≡ 0 * a.stride = omega arith in
     record {
-      is = sums_none a.sums.now (row_term a.weights.now a.source.now a.stride) (λ j l. (c.slice_known-1.given j).fits);
+      is = sums_none a.sums.now (row_term a.weights.now a.source.now a.stride) (λ j l. (c.type_inv.sums j).fits);
       row = ap (λ (k : ℕ). drop k a.source.now) start;
       short = omega arith;
       few = omega arith;
@@ -45,7 +45,7 @@ pub loop-i-smaller-then-weights-i-lt2 : goal.loop-i-smaller-then-weights-i-lt2
 loop-i-smaller-then-weights-i-lt2 c = omega arith
 
 -- the row after this one
-next_row : (c : After-least-step
+next_row : (c : After-least-step)
     → take (length c.loop-i.rest.now - c.least-step.result) (drop c.least-step.result c.loop-i.rest.now)
     ≡ drop ((c.loop-i.i + 1) * c.args.stride) c.args.source.now
 next_row c =
@@ -62,8 +62,8 @@ loop-i-preserved-then-weights-i-lt2 c =
       is =
           added.ensures
           ∙ one_row a.weights.now a.source.now a.stride a.sums.now l.sums l.rest.now l.i l.invariant.is l.invariant.row;
-      row = next_row c.before.before.before.before.before.before.before;
-      short = rest_short a.source.now _ (l.i + 1) a.stride (next_row c.before.before.before.before.before.before.before);
+      row = next_row (goal.at.loop-i-preserved-then-weights-i-lt2 c).After-least-step;
+      short = rest_short a.source.now _ (l.i + 1) a.stride (next_row (goal.at.loop-i-preserved-then-weights-i-lt2 c).After-least-step);
       few = omega arith;
     }
 
@@ -107,8 +107,8 @@ loop-i-preserved c =
     let next = take (length l.rest.now - c.least-step.result) (drop c.least-step.result l.rest.now) in
     let more = one_row a.weights.now a.source.now a.stride a.sums.now in
     let once = more l.sums l.rest.now l.i l.invariant.is l.invariant.row in
-    let twice = more (plus l.sums (get_or a.weights.now l.i 0) l.rest.now) next (l.i + 1) once (next_row c.before.before.before.before.before.before.before.before.before.before) in
-    let row = rest_more a.source.now next (l.i + 1) a.stride c.least-step-else-weights-i-lt2.result (next_row c.before.before.before.before.before.before.before.before.before.before) c.least-step-else-weights-i-lt2.ensures in
+    let twice = more (plus l.sums (get_or a.weights.now l.i 0) l.rest.now) next (l.i + 1) once (next_row (goal.at.loop-i-preserved c).After-least-step) in
+    let row = rest_more a.source.now next (l.i + 1) a.stride c.least-step-else-weights-i-lt2.result (next_row (goal.at.loop-i-preserved c).After-least-step) c.least-step-else-weights-i-lt2.ensures in
     let two : l.i + 1 + 1 ≡ l.i + 2 = omega arith in
     record {
       is = c.add_pair.ensures ∙ twice ∙ ap (sums_to a.sums.now (row_term a.weights.now a.source.now a.stride)) two;
