@@ -22,7 +22,7 @@ returns c =
       kind = sym (number_of_one bytes 5) i;
       modulus = sym (number_of_one bytes 6) i;
       host = sym (number_of_one bytes 7) i;
-      c.before.before.before.before.before.before.before.before = (c.pair.ensures ∙ sym (number_of_two bytes 8)) i;
-      c.before.before.before.before.before = (c.pair-2.ensures ∙ sym (number_of_two bytes 10)) i;
+      rows = (c.pair.ensures ∙ sym (number_of_two bytes 8)) i;
+      columns = (c.pair-2.ensures ∙ sym (number_of_two bytes 10)) i;
       number = (c.word.ensures ∙ sym (number_of_four bytes 12)) i;
     }

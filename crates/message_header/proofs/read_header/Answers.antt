@@ -35,10 +35,10 @@ pub returns-in-Fit : goal.returns-in-Fit
 unfolding opened
 returns-in-Fit c =
     let told = fit_told c.header_fields-h.result (sym c.check_fields-checked.ensures ∙ c.in-Fit.is) in
-    rw (← c.header_fields-h.ensures, told.1) (sym (outcome_done _ _ _ (fields-decide c.before.before.before.before ∙ told.0)))
+    rw (← c.header_fields-h.ensures, told.1) (sym (outcome_done _ _ _ (fields-decide (goal.at.returns-in-Fit c).After-header_fields-h ∙ told.0)))
 
 pub returns-in-Refused : goal.returns-in-Refused
 unfolding opened
 returns-in-Refused c =
     let told = check_told c.header_fields-h.result (sym c.check_fields-checked.ensures ∙ c.in-Refused.is) in
-    refused_by _ _ _ _ told.1 (fields-decide c.before.before.before.before ∙ told.0)
+    refused_by _ _ _ _ told.1 (fields-decide (goal.at.returns-in-Refused c).After-header_fields-h ∙ told.0)

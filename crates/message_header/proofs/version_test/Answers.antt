@@ -18,11 +18,10 @@ pub returns-in-0 : goal.returns-in-0
 unfolding version
 returns-in-0 c =
     let bytes = c.args.message.now in
-    sym (ap not (ne_eqb (number_at bytes 3 2) 1 (λ e. omega (arith, number_of_two bytes 3, c.pair-version.ensures, c.in-1.keys2))))
+    sym (ap not (ne_eqb (number_at bytes 3 2) 1 (λ e. omega (arith, number_of_two bytes 3, c.pair-version.ensures))))
 
 pub returns-in-0-2 : goal.returns-in-0-2
 unfolding version
 returns-in-0-2 c =
     let bytes = c.args.message.now in
-    let other = c.in-1.rest.0.1 in
-    sym (ap not (ne_eqb (number_at bytes 3 2) 1 (λ e. other (omega (arith, number_of_two bytes 3, c.pair-version.ensures)))))
+    sym (ap not (ne_eqb (number_at bytes 3 2) 1 (λ e. omega (arith, number_of_two bytes 3, c.pair-version.ensures))))
