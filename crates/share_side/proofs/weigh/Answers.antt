@@ -1,7 +1,7 @@
 -- `share_side::weigh` meets its contract.
 use mathlib.Core.Path.{◌≡◌, refl, ap, ◌∙◌}
 use mathlib.Core.List.{◌++◌}
-use Prim.Native.Nat.{ℕ, ◌-◌, ◌^◌, ◌%◌, min}
+use Prim.Native.Nat.{ℕ, ◌^◌, ◌%◌, min}
 use native.Mathlib.Omega.{arith}
 use lib.ListN.{length, drop, set, length-set}
 use Rattle.algebra.specs.Lists.{tab}
