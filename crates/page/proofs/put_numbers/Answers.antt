@@ -45,7 +45,7 @@ pub put_bytes-requires : goal.put_bytes-requires
 put_bytes-requires c = tt
 
 -- all numbers, and the line's end
-written : (c : After-slice_known-2-1 → let a = c.args in
+written : (c : After-slice_known-2-1) → let a = c.args in
     Writes a.out.now a.at (line_of [] a.numbers.now) c.put_bytes.new.0 c.put_bytes.result
 unfolding line_of line
 written c =

@@ -23,7 +23,7 @@ unfolding stack
 loop-i-init c = record { short = omega arith; wide = c.panel_width-count.ensures; is = writes_nothing _ _ }
 
 -- a row's part of the table is inside it
-turn : (c : In-loop-i → let a = c.args in
+turn : (c : In-loop-i) → let a = c.args in
     record { inside : c.loop-i.i * a.r + a.p * 6 + across a.r a.p ≤ length a.table.now; small : length a.table.now ≤ 16384 * 16384 }
 turn c =
     let a = c.args in
@@ -80,7 +80,7 @@ loop-i-preserved c =
     record { short = omega arith; wide = l.invariant.wide; is = rw add-one (then l.invariant.is (same one c.put_row-next.ensures)) }
 
 -- the heading, and all rows
-written : (c : After-loop-i → let a = c.args in
+written : (c : After-loop-i) → let a = c.args in
     Writes a.out.now a.at (panel a.t a.r a.table.now a.p) c.loop-i.out c.loop-i.next
 unfolding panel
 written c =

@@ -1,13 +1,17 @@
 -- `text_numbers::begins_one` meets its contract.
 use mathlib.Core.Path.{ap}
 use mathlib.Core.Bool.{not}
-use mathlib.Core.Logic.{⊎_elim}
 use Rattle.text_numbers.specs.Words.{begins}
 use Rattle.text_numbers.proofs.begins_one.Goals as goal
+use Rattle.text_numbers.proofs.begins_one.Goals.{then-before-via-then-before, then-before-via-else-before+then-before-2}
 
 pub returns-then-before : goal.returns-then-before
 unfolding begins
-returns-then-before c = ⊎_elim (λ w. rw w.taken) (λ w. rw (w.0.left, w.1.taken)) c.if-before.branch
+returns-then-before c =
+    elim c.then-before.branch [
+      | then-before-via-then-before w ↦ rw w.if-before.true
+      | then-before-via-else-before+then-before-2 w ↦ rw (w.if-before.false, w.if-before-2.true)
+    ]
 
 pub returns-then-words : goal.returns-then-words
 unfolding begins

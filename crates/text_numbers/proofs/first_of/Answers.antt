@@ -1,6 +1,5 @@
 -- `text_numbers::first_of` meets its contract.
 use mathlib.Core.Path.{sym, ◌∙◌}
-use Prim.Native.Nat.{◌-◌}
 use native.Mathlib.Omega.{arith}
 use Rattle.text_numbers.specs.Words.{gap}
 use Rattle.text_numbers.proofs.Words.{first_here, first_later, first_none}

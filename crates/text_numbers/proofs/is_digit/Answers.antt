@@ -4,4 +4,4 @@ use Rattle.text_numbers.proofs.is_digit.Goals as goal
 
 pub returns : goal.returns
 unfolding is_digit
-returns c = c.is_Within.ensures
+returns c = c.is_within.ensures

@@ -1,6 +1,5 @@
 -- `text_numbers::token_end` meets its contract.
 use mathlib.Core.Path.{sym, ◌∙◌}
-use Prim.Native.Nat.{◌-◌}
 use native.Mathlib.Omega.{arith}
 use Rattle.text_numbers.proofs.Words.{end_here, end_later, end_none}
 use Rattle.text_numbers.proofs.token_end.Goals as goal
