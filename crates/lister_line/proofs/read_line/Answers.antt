@@ -1,6 +1,6 @@
 -- `lister_line::read_line` meets its contract.
 use mathlib.Core.Path.{◌≡◌, refl, sym, ap, ◌∙◌}
-use Prim.Native.Nat.{ℕ, ◌-◌}
+use Prim.Native.Nat.{ℕ}
 use native.Mathlib.Omega.{arith}
 use native.Mathlib.Numerals.{add-one}
 use lib.Seq.{take_all}
@@ -38,13 +38,13 @@ loop-i-preserved c =
     }
 
 -- the progress over the whole input
-whole : (c : After-loop-i → c.loop-i.p ≡ run nothing c.args.input.now
+whole : (c : After-loop-i) → c.loop-i.p ≡ run nothing c.args.input.now
 whole c =
     c.loop-i.invariant.is
     ∙ ap (run nothing) (take_all c.loop-i.i c.args.input.now c.loop-i-test.false)
 
 pub returns-then-p : goal.returns-then-p
-returns-then-p c = line_is _ c.loop-i.p _ (whole c.before.before) (rw c.if-p.true)
+returns-then-p c = line_is _ c.loop-i.p _ (whole (goal.at.returns-then-p c).After-loop-i) (rw c.if-p.true)
 
 pub returns-else-p : goal.returns-else-p
-returns-else-p c = line_is _ c.loop-i.p _ (whole c.before.before) (rw c.if-p.false)
+returns-else-p c = line_is _ c.loop-i.p _ (whole (goal.at.returns-else-p c).After-loop-i) (rw c.if-p.false)

@@ -3,18 +3,17 @@ use mathlib.Core.Path.{◌≡◌, sym, ◌∙◌, ap}
 use mathlib.Core.Bool.{true}
 use Prim.Native.Nat.{ℕ}
 use lib.Dec.{eqb}
-use borrow.Author.Tests.{not-true, not-false}
 use Rattle.lister_line.specs.Internal.{goes_on, takes_end}
 use Rattle.lister_line.proofs.takes_end.Goals as goal
 use Rattle.lister_line.proofs.takes_end.Goals.{Else-not-goes_on}
 
 pub returns-then-not-goes_on : goal.returns-then-not-goes_on
 unfolding takes_end
-returns-then-not-goes_on c = rw (sym c.goes_on.ensures ∙ not-true _ c.if-not-goes_on.true)
+returns-then-not-goes_on c = rw (sym c.goes_on.ensures ∙ c.if-not-goes_on.true)
 
 -- the line goes on
 on : (c : Else-not-goes_on) → goes_on c.args.p ≡ true
-on c = sym c.goes_on.ensures ∙ not-false _ c.if-not-goes_on.false
+on c = sym c.goes_on.ensures ∙ c.if-not-goes_on.false
 
 pub returns-then-p : goal.returns-then-p
 unfolding takes_end
