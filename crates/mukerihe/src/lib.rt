@@ -1,5 +1,5 @@
 // The host's part for a partner's C program: the product alone, big-endian bytes in and out; and the whole part, messages in and
-// out.
+// out. C calls it by the crate `mukerihe_c`.
 #![tactic(auto)]
 
 ghost use Rattle.std.specs.Prelude.{◌≡◌, ◌++◌, ◌/◌, ◌≤◌, min, length, drop};
@@ -93,8 +93,7 @@ fn small_product(n: Numbers, a: &[u8], b: &[u8], out: &mut [u8]) -> u32
 
 // The product of two shares as bytes: rows by inner times inner by columns. The output then holds it and 0 is returned; or the
 // refusal number is returned, and no byte of the output changes.
-#[unsafe(no_mangle)]
-pub extern "C" fn mukerihe_product(
+pub fn mukerihe_product(
     modulus: u32,
     rows: u32,
     inner: u32,
@@ -211,8 +210,7 @@ fn answer_pair(g: Header, h: Header, a: &[u8], b: &[u8], out: &mut [u8], written
 
 // A host's whole part: the message of its A share and that of its B share in, the message of its answer out. The answer then stands
 // at the front of the output, and written is how many bytes it has; or the refusal number is returned, and nothing changes.
-#[unsafe(no_mangle)]
-pub extern "C" fn mukerihe_answer(a: &[u8], b: &[u8], out: &mut [u8], written: &mut usize) -> u32
+pub fn mukerihe_answer(a: &[u8], b: &[u8], out: &mut [u8], written: &mut usize) -> u32
     ensures number { result ≡ first (host_answer_tests a.now b.now (length out.old)) }
     ensures bytes { out.new ≡ host_answer_after a.now b.now out.old }
     ensures written { let xs = a.now in let ys = b.now in
