@@ -17,10 +17,10 @@ long c =
     (ltb-false _ _ (or_left short thin c.if-row-n.false), ltb-false _ _ (or_right short thin c.if-row-n.false))
 
 pub slice_bounds-add_two_rows-end : goal.slice_bounds-add_two_rows-end
-slice_bounds-add_two_rows-end c = sym (length-take-le _ _ (long c.before.before).0)
+slice_bounds-add_two_rows-end c = sym (length-take-le _ _ (long (goal.at.slice_bounds-add_two_rows-end c).Else-row-n).0)
 
 pub slice_bounds-add_two_rows-end-else-row-n : goal.slice_bounds-add_two_rows-end-else-row-n
-slice_bounds-add_two_rows-end-else-row-n c = sym (length-take-le _ _ (long c.before.before.before).1)
+slice_bounds-add_two_rows-end-else-row-n c = sym (length-take-le _ _ (long (goal.at.slice_bounds-add_two_rows-end-else-row-n c).Else-row-n).1)
 
 pub returns-else-row-n : goal.returns-else-row-n
 returns-else-row-n c =

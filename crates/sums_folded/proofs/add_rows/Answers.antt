@@ -1,21 +1,18 @@
 -- `sums_folded::add_rows` meets its contract.
-use Rattle.std.proofs.Common.{◌≡◌, ℕ, ◌+◌, ◌-◌, ◌*◌, ◌/◌, List, length, get_or, take, drop, ap, ◌∙◌, arith}
+use Rattle.std.proofs.Common.{◌≡◌, ℕ, ◌+◌, ◌-◌, ◌*◌, ◌/◌, length, get_or, take, drop, ap, ◌∙◌, arith}
 use Rattle.sums.proofs.Steps.{sums_to, length_sums, sums_none, row_entry, rest_more, rest_short}
 use Rattle.sums_folded.specs.Internal.{folded, paired_two}
-use Rattle.sums_folded.proofs.Steps.{pair_terms, pairs_more, pairs_last, row_product, all_pairs}
+use Rattle.sums_folded.proofs.Steps.{pairs_more, pairs_last, row_product, all_pairs}
+use Rattle.sums_folded.proofs.add_rows.Invariants.{terms}
 use Rattle.sums_folded.proofs.add_rows.Goals as goal
-use Rattle.sums_folded.proofs.add_rows.Goals.{After-slice_known-then-pairs-weights-1}
-
--- pair c of the rows, in column j
-abbrev terms : List ℕ → List ℕ → ℕ → ℕ → ℕ → ℕ
-terms weights source stride = pair_terms folded (length weights) (row_product weights source stride)
+use Rattle.sums_folded.proofs.add_rows.Goals.{After-add_pair-then-pairs-weights}
 
 pub loop-c-init : goal.loop-c-init
 loop-c-init c =
     let a = c.args in
     let start : 0 ≡ 0 * 2 * a.stride = omega arith in
     record {
-      is = sums_none a.sums.now (terms a.weights.now a.source.now a.stride) (λ j l. (c.slice_known-1.given j).fits);
+      is = sums_none a.sums.now (terms a.weights.now a.source.now a.stride) (λ j l. (c.type_inv.sums j).fits);
       row = ap (λ (k : ℕ). drop k a.source.now) start;
       short = omega arith;
       few = omega arith;
@@ -108,10 +105,9 @@ pub bounds-weights-pairs : goal.bounds-weights-pairs
 bounds-weights-pairs c = omega arith
 
 -- the sums after an odd last row
-last : (c : After-slice_known-then-pairs-weights-1
-    → let l = c.before.before.before.before.before.before.before in
-    let a = l.before.before.before.before.args in
-    c.add_pair-then-pairs-weights.new.0 ≡ sums_to a.sums.now (terms a.weights.now a.source.now a.stride) (l.loop.c + 1)
+last : (c : After-add_pair-then-pairs-weights)
+    → let a = c.args in
+    c.add_pair-then-pairs-weights.new.sums ≡ sums_to a.sums.now (terms a.weights.now a.source.now a.stride) (c.loop-c.c + 1)
 last c =
     let a = c.args in
     let even : length a.weights.now / 2 ≡ c.loop-c.c = omega arith in
@@ -126,13 +122,13 @@ last c =
 pub shape_of-sums-then-pairs-weights : goal.shape_of-sums-then-pairs-weights
 shape_of-sums-then-pairs-weights c =
     let a = c.args in
-    ap length (last c) ∙ length_sums a.sums.now (terms a.weights.now a.source.now a.stride) (c.loop-c.c + 1)
+    ap length (last (goal.at.shape_of-sums-then-pairs-weights c).After-add_pair-then-pairs-weights) ∙ length_sums a.sums.now (terms a.weights.now a.source.now a.stride) (c.loop-c.c + 1)
 
 pub returns-then-pairs-weights : goal.returns-then-pairs-weights
 returns-then-pairs-weights c =
     let a = c.args in
     let half : c.loop-c.c + 1 ≡ (length a.weights.now + 1) / 2 = omega arith in
-    last c
+    last (goal.at.returns-then-pairs-weights c).After-add_pair-then-pairs-weights
     ∙ ap (sums_to a.sums.now (terms a.weights.now a.source.now a.stride)) half
     ∙ all_pairs a.weights.now a.source.now a.stride folded a.sums.now
 

@@ -1,13 +1,10 @@
 -- `sums_folded::add_two_rows` meets its contract.
-use Rattle.std.proofs.Common.{◌≡◌, ℕ, ◌+◌, ◌-◌, ◌*◌, ◌%◌, ◌^◌, List, ◌++◌, length, get_or, drop, set, refl, ap, ◌∙◌, ap₂, arith, length-set}
+use Rattle.std.proofs.Common.{◌≡◌, ℕ, ◌*◌, List, ◌++◌, length, get_or, drop, set, refl, ap, ◌∙◌, ap₂, arith, length-set}
 use Rattle.algebra.specs.Lists.{tab}
 use Rattle.algebra.proofs.Fronts.{front_none, front_more, front_old, front_all}
 use Rattle.sums_folded.specs.Internal.{folded, paired_two}
+use Rattle.sums_folded.proofs.add_two_rows.Invariants.{terms}
 use Rattle.sums_folded.proofs.add_two_rows.Goals as goal
-
--- a sum with both its terms
-abbrev terms : List ℕ → ℕ → List ℕ → ℕ → List ℕ → ℕ → ℕ
-terms sums weight row second next j = (get_or sums j 0 + folded (weight * get_or row j 0) (second * get_or next j 0)) % 2 ^ 64
 
 pub loop-j-init : goal.loop-j-init
 loop-j-init c = record { is = front_none _ c.args.sums.now; short = omega arith; same = refl }
