@@ -1,17 +1,14 @@
 -- `sums_packed::pack` meets its contract.
 use mathlib.Core.Path.{◌≡◌, refl, ap, ◌∙◌}
-use mathlib.Core.List.{List, ◌++◌}
-use Prim.Native.Nat.{ℕ, ◌+◌, ◌-◌, ◌/◌, min}
+use mathlib.Core.List.{◌++◌}
+use Prim.Native.Nat.{ℕ, ◌/◌, min}
 use native.Mathlib.Omega.{arith}
-use lib.ListN.{length, get_or, drop, set, length-set}
+use lib.ListN.{length, drop, set, length-set}
 use Rattle.algebra.specs.Lists.{tab}
 use Rattle.algebra.proofs.Fronts.{front_none, front_more}
-use Rattle.sums_packed.specs.Internal.{pair, packed}
+use Rattle.sums_packed.specs.Internal.{packed}
+use Rattle.sums_packed.proofs.pack.Invariants.{at}
 use Rattle.sums_packed.proofs.pack.Goals as goal
-
--- the pair at k
-abbrev at : List ℕ → ℕ → ℕ
-at rows k = pair (get_or rows k 0) (get_or rows (length rows / 2 + k) 0)
 
 pub loop-k-init : goal.loop-k-init
 loop-k-init c = record { is = front_none _ c.args.out.now; short = omega arith; same = refl }

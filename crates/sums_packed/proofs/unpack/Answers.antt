@@ -1,7 +1,7 @@
 -- `sums_packed::unpack` meets its contract.
 use mathlib.Core.Path.{◌≡◌, refl, sym, ap, ap₂, ◌∙◌}
 use mathlib.Core.List.{List, ◌++◌}
-use Prim.Native.Nat.{ℕ, ◌-◌, ◌%◌, min}
+use Prim.Native.Nat.{ℕ, ◌%◌, min}
 use native.Mathlib.Omega.{arith}
 use lib.ListN.{length, get_or, drop, set, length-set}
 use Rattle.algebra.specs.Lists.{tab}
@@ -38,7 +38,7 @@ pub loop-j-preserved : goal.loop-j-preserved
 loop-j-preserved c =
     let a = c.args in
     let f : ℕ → ℕ = λ i. half a.upper (get_or a.sums.now i 0) % prime a.modulus in
-    let value : c.reduce.result ≡ f c.loop-j.j = c.reduce.ensures ∙ ap (λ (x : ℕ). x % prime a.modulus) c.half_of_lem.ensures in
+    let value : c.reduce.result ≡ f c.loop-j.j = c.reduce.ensures ∙ ap (λ (x : ℕ). x % prime a.modulus) c.half_of.ensures in
     record {
       is = ap (set c.loop-j.out c.loop-j.j) value ∙ front_more f a.out.now c.loop-j.out c.loop-j.j (omega arith) c.loop-j.invariant.is;
       short = omega arith;
