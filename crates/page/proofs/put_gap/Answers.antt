@@ -23,4 +23,4 @@ later (suc p) h = refl
 pub returns : goal.returns
 returns c =
     let a = c.args in
-    same (later a.p (omega arith)) (writes a.out.now a.at (ascii "\n") c.put_bytes.ensures)
+    same (later a.p (omega arith)) (writes a.out.now a.at (ascii "\n") (c.put_bytes.ensures.end, c.put_bytes.ensures.text))

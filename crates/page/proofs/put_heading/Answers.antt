@@ -27,22 +27,22 @@ room c =
     omega (arith, six, c.panel_width-count.ensures, across_fits a.r a.p c.requires.1)
 
 pub slice_bounds-columns-end : goal.slice_bounds-columns-end
-slice_bounds-columns-end c = room c.before.before.before.before.before.before
+slice_bounds-columns-end c = room (goal.at.slice_bounds-columns-end c).After-panel_width-count
 
 pub slice_bounds-put_numbers-end : goal.slice_bounds-put_numbers-end
-slice_bounds-put_numbers-end c = sym (length-take-le _ _ (room c.before.before.before.before.before.before.before))
+slice_bounds-put_numbers-end c = sym (length-take-le _ _ (room (goal.at.slice_bounds-put_numbers-end c).After-panel_width-count))
 
 -- spaces, and the column numbers
 written : (c : After-put_numbers) → let a = c.args in
-    Writes a.out.now a.at (heading a.r a.p) c.put_numbers.new.0 c.put_numbers.result
+    Writes a.out.now a.at (heading a.r a.p) c.put_numbers.new.out c.put_numbers.result
 unfolding line_of line spaces tab
 written c =
     let a = c.args in
     same (heading_is a.r a.p c.six_columns-columns.result c.requires.1 c.six_columns-columns.ensures c.panel_width-count.ensures)
-    (then (writes a.out.now a.at (ascii "     ") c.put_bytes-next.ensures) c.put_numbers.ensures)
+    (then (writes a.out.now a.at (ascii "     ") (c.put_bytes-next.ensures.end, c.put_bytes-next.ensures.text)) c.put_numbers.ensures)
 
 pub shape_of-out : goal.shape_of-out
-shape_of-out c = (written c.before.before).kept
+shape_of-out c = (written (goal.at.shape_of-out c).After-put_numbers).kept
 
 pub returns : goal.returns
-returns c = written c.before.before
+returns c = written (goal.at.returns c).After-put_numbers

@@ -1,6 +1,6 @@
 -- `page::put_numbers` meets its contract.
 use mathlib.Core.Path.{◌≡◌}
-use Prim.Native.Nat.{◌-◌}
+use mathlib.Core.List.{[]}
 use native.Mathlib.Numerals.{add-one}
 use native.Mathlib.Omega.{arith}
 use lib.ListN.{length}
@@ -12,7 +12,7 @@ use Rattle.page.specs.Page.{line}
 use Rattle.page.specs.Internal.{line_of}
 use Rattle.page.proofs.Lengths.{number_fits}
 use Rattle.page.proofs.put_numbers.Goals as goal
-use Rattle.page.proofs.put_numbers.Goals.{After-slice_known-2-1}
+use Rattle.page.proofs.put_numbers.Goals.{After-put_bytes}
 
 pub loop-c-init : goal.loop-c-init
 unfolding stack
@@ -45,17 +45,17 @@ pub put_bytes-requires : goal.put_bytes-requires
 put_bytes-requires c = tt
 
 -- all numbers, and the line's end
-written : (c : After-slice_known-2-1) → let a = c.args in
-    Writes a.out.now a.at (line_of [] a.numbers.now) c.put_bytes.new.0 c.put_bytes.result
+written : (c : After-put_bytes) → let a = c.args in
+    Writes a.out.now a.at (line_of [] a.numbers.now) c.put_bytes.new.out c.put_bytes.result
 unfolding line_of line
 written c =
     let a = c.args in
     let l = c.loop-c in
     let all : l.c ≡ length a.numbers.now = omega arith in
-    then (rw all at l.invariant.is) (writes l.out l.next (ascii "\n") c.put_bytes.ensures)
+    then (rw all at l.invariant.is) (writes l.out l.next (ascii "\n") (c.put_bytes.ensures.end, c.put_bytes.ensures.text))
 
 pub shape_of-out : goal.shape_of-out
-shape_of-out c = (written c).kept
+shape_of-out c = (written (goal.at.shape_of-out c).After-put_bytes).kept
 
 pub returns : goal.returns
-returns c = written c
+returns c = written (goal.at.returns c).After-put_bytes

@@ -47,16 +47,16 @@ pub overflow_add-i : goal.overflow_add-i
 overflow_add-i c = omega arith
 
 pub offset_bounds-table-start : goal.offset_bounds-table-start
-offset_bounds-table-start c = let t = turn c.before in omega arith
+offset_bounds-table-start c = let t = turn (goal.at.offset_bounds-table-start c).In-loop-i in omega arith
 
 pub slice_bounds-put_row-count : goal.slice_bounds-put_row-count
 slice_bounds-put_row-count c = omega arith
 
 pub slice_bounds-put_row-start : goal.slice_bounds-put_row-start
-slice_bounds-put_row-start c = let t = turn c.before in omega arith
+slice_bounds-put_row-start c = let t = turn (goal.at.slice_bounds-put_row-start c).In-loop-i in omega arith
 
 pub slice_bounds-put_row-end : goal.slice_bounds-put_row-end
-slice_bounds-put_row-end c = let t = turn c.before in omega arith
+slice_bounds-put_row-end c = let t = turn (goal.at.slice_bounds-put_row-end c).In-loop-i in omega arith
 
 pub put_row-next-requires : goal.put_row-next-requires
 put_row-next-requires c = omega arith
@@ -70,7 +70,7 @@ loop-i-smaller c = omega arith
 pub loop-i-preserved : goal.loop-i-preserved
 unfolding stack
 loop-i-preserved c =
-    let t = turn c.before.before.before.before.before in
+    let t = turn (goal.at.loop-i-preserved c).In-loop-i in
     let a = c.args in
     let l = c.loop-i in
     let count = c.panel_width-count.result in

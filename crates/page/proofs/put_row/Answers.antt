@@ -12,12 +12,12 @@ put_cell-next-requires c = decimal_short c.args.number c.requires
 
 -- the row number, and the elements
 written : (c : After-put_numbers) → let a = c.args in
-    Writes a.out.now a.at (line_of (cell 5 a.number) a.elements.now) c.put_numbers.new.0 c.put_numbers.result
+    Writes a.out.now a.at (line_of (cell 5 a.number) a.elements.now) c.put_numbers.new.out c.put_numbers.result
 unfolding line_of line
 written c = then c.put_cell-next.ensures c.put_numbers.ensures
 
 pub shape_of-out : goal.shape_of-out
-shape_of-out c = (written c.before.before).kept
+shape_of-out c = (written (goal.at.shape_of-out c).After-put_numbers).kept
 
 pub returns : goal.returns
-returns c = written c.before.before
+returns c = written (goal.at.returns c).After-put_numbers

@@ -15,7 +15,7 @@ use Rattle.page.specs.Page.{page_length, page_tests}
 use Rattle.page.proofs.Lengths.{length_page}
 use Rattle.page.proofs.Outcomes.{refused, done, Sizes, sizes}
 use Rattle.page.proofs.write_page.Goals as goal
-use Rattle.page.proofs.write_page.Goals.{Else-out-length_of, Else-size_test, In-Is-2}
+use Rattle.page.proofs.write_page.Goals.{Else-out-length_of, Else-size_test, In-Is}
 
 pub returns-in_default : goal.returns-in_default
 unfolding first page_tests
@@ -24,14 +24,14 @@ returns-in_default c =
     let unknown = none_named a.modulus (sym c.modulus_named.ensures ∙ c.in_default.is) in let all = refused a.modulus a.t a.r a.table.now a.out.now 1 (λ z. suc-ne-zero 0 z) (rw unknown) in record { number = all.0; text = all.1 }
 
 -- the modulus is named, so its number is known
-known-prime : (c : In-Is-2) → Known c.args.modulus (prime c.in-Is.named)
+known-prime : (c : In-Is) → Known c.args.modulus (prime c.in-Is.named)
 known-prime c = known c.args.modulus (sym c.modulus_named.ensures ∙ c.in-Is.is) refl
 
 pub returns-then-size_test : goal.returns-then-size_test
 unfolding first page_tests
 returns-then-size_test c =
     let a = c.args in let all = refused a.modulus a.t a.r a.table.now a.out.now 2 (λ z. suc-ne-zero 1 z)
-    (rw ((known-prime c.before.before.before).is_number, ← c.size_test.ensures, c.if-size_test.true)) in record { number = all.0; text = all.1 }
+    (rw ((known-prime (goal.at.returns-then-size_test c).In-Is).is_number, ← c.size_test.ensures, c.if-size_test.true)) in record { number = all.0; text = all.1 }
 
 -- both sizes are in range
 sized : (c : Else-size_test) → let a = c.args in
@@ -42,18 +42,18 @@ within : (c : Else-size_test) → let a = c.args in Sizes a.t a.r
 within c = sizes _ _ (sized c)
 
 pub overflow_mul-rows : goal.overflow_mul-rows
-overflow_mul-rows c = let s = within c in omega (arith, s.area)
+overflow_mul-rows c = let s = within (goal.at.overflow_mul-rows c).Else-size_test in omega (arith, s.area)
 
 pub returns-then-table-rows : goal.returns-then-table-rows
 unfolding first page_tests
 returns-then-table-rows c =
     let a = c.args in
     let other = ne_eqb (length a.table.now) (a.t * a.r) c.if-table-rows.true in let all = refused a.modulus a.t a.r a.table.now a.out.now 13 (λ z. suc-ne-zero 12 z)
-    (rw ((known-prime c.before.before.before.before).is_number, sized c.before, other)) in record { number = all.0; text = all.1 }
+    (rw ((known-prime (goal.at.returns-then-table-rows c).In-Is).is_number, sized (goal.at.returns-then-table-rows c).Else-size_test, other)) in record { number = all.0; text = all.1 }
 
 pub length_of-requires : goal.length_of-requires
 length_of-requires c =
-    let s = within c.before in
+    let s = within (goal.at.length_of-requires c).Else-size_test in
     let tall = s.tall in
     let wide = s.wide in
     (omega arith, omega arith, omega arith)
@@ -63,7 +63,7 @@ unfolding first page_tests
 returns-then-out-length_of c =
     let a = c.args in
     let other = ne_eqb (length a.out.now) (page_length a.t a.r) (λ e. c.if-out-length_of.true (e ∙ sym c.length_of.ensures)) in let all = refused a.modulus a.t a.r a.table.now a.out.now 28 (λ z. suc-ne-zero 27 z)
-    (rw ((known-prime c.before.before.before.before.before.before).is_number, sized c.before.before.before, alike _ _ c.if-table-rows.false, other)) in record { number = all.0; text = all.1 }
+    (rw ((known-prime (goal.at.returns-then-out-length_of c).In-Is).is_number, sized (goal.at.returns-then-out-length_of c).Else-size_test, alike _ _ c.if-table-rows.false, other)) in record { number = all.0; text = all.1 }
 
 -- the output has the page's length
 room : (c : Else-out-length_of) → let a = c.args in
@@ -74,11 +74,11 @@ pub returns-then-not-all_below : goal.returns-then-not-all_below
 unfolding first page_tests
 returns-then-not-all_below c =
     let a = c.args in let all = refused a.modulus a.t a.r a.table.now a.out.now 14 (λ z. suc-ne-zero 13 z)
-    (rw ((known-prime c.before.before.before.before.before.before.before.before).is_number, sized c.before.before.before.before.before, alike _ _ c.if-table-rows.false, alike _ _ (room c.before.before), (known-prime c.before.before.before.before.before.before.before.before).is, ← c.all_below.ensures, c.if-not-all_below.true)) in record { number = all.0; text = all.1 }
+    (rw ((known-prime (goal.at.returns-then-not-all_below c).In-Is).is_number, sized (goal.at.returns-then-not-all_below c).Else-size_test, alike _ _ c.if-table-rows.false, alike _ _ (room (goal.at.returns-then-not-all_below c).Else-out-length_of), (known-prime (goal.at.returns-then-not-all_below c).In-Is).is, ← c.all_below.ensures, c.if-not-all_below.true)) in record { number = all.0; text = all.1 }
 
 pub put_page-requires : goal.put_page-requires
 put_page-requires c =
-    let s = within c.before.before.before.before.before.before in
+    let s = within (goal.at.put_page-requires c).Else-size_test in
     (s.tall.high, s.wide.high, c.if-table-rows.false)
 
 pub shape_of-out : goal.shape_of-out
@@ -88,6 +88,6 @@ pub returns : goal.returns
 unfolding first page_tests
 returns c =
     let a = c.args in
-    let s = within c.before.before.before.before.before.before.before.before.before in let all = done a.modulus a.t a.r a.table.now a.out.now
-    (rw ((known-prime c.before.before.before.before.before.before.before.before.before.before.before.before).is_number, sized c.before.before.before.before.before.before.before.before.before, alike _ _ c.if-table-rows.false, alike _ _ (room c.before.before.before.before.before.before), (known-prime c.before.before.before.before.before.before.before.before.before.before.before.before).is, ← c.all_below.ensures, c.if-not-all_below.false))
-    _ (writes_all (length_page a.t a.r a.table.now s.tall.high s.wide.low ∙ sym (room c.before.before.before.before.before.before)) c.put_page.ensures) in record { number = all.0; text = all.1 }
+    let s = within (goal.at.returns c).Else-size_test in let all = done a.modulus a.t a.r a.table.now a.out.now
+    (rw ((known-prime (goal.at.returns c).In-Is).is_number, sized (goal.at.returns c).Else-size_test, alike _ _ c.if-table-rows.false, alike _ _ (room (goal.at.returns c).Else-out-length_of), (known-prime (goal.at.returns c).In-Is).is, ← c.all_below.ensures, c.if-not-all_below.false))
+    _ (writes_all (length_page a.t a.r a.table.now s.tall.high s.wide.low ∙ sym (room (goal.at.returns c).Else-out-length_of)) c.put_page.ensures) in record { number = all.0; text = all.1 }
