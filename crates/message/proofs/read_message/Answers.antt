@@ -37,13 +37,13 @@ returns-in-Fields c =
     let message = a.message.now in
     let out = a.out.now in
     let room : 4096 ≤ length out = omega (arith, c.if-out-lt-MOST_ELEMENTS.false) in
-    let r = readable message (accepted c.before.before.before.before.before) in
-    let fields = ranged _ r.head.fields in let all = (
-      c.examine-parsed.ensures ∙ sym (read_long message (length out) room),
-      c.read_elements.ensures
+    let r = readable message (accepted (goal.at.returns-in-Fields c).In-Fields) in
+    let fields = ranged _ r.head.fields in record {
+      outcome = c.examine-parsed.ensures ∙ sym (read_long message (length out) room);
+      elements = c.read_elements.ensures
           ∙ read_part message r.whole out (omega (arith, fields.count, room))
-          ∙ sym (read_done message out room (accepted c.before.before.before.before.before)),
-    ) in record { outcome = all.0; elements = all.1 }
+          ∙ sym (read_done message out room (accepted (goal.at.returns-in-Fields c).In-Fields));
+    }
 
 pub returns-in_default : goal.returns-in_default
 unfolding examined
