@@ -14,7 +14,7 @@ use Rattle.lister.proofs.list.Goals.{After-plan_of}
 
 pub returns-then-not-line : goal.returns-then-not-line
 returns-then-not-line c =
-    let not-ok = ap (λ (l : Line). l.ok) (sym c.read_line-line.ensures) ∙ not-true _ c.if-not-line.true in let all = listed c.args.input.now (malformed c.args.input.now not-ok) c.Put-refused.ensures in record { room = all.0; length = all.1.0; text = all.1.1 }
+    let not-ok = ap (λ (l : Line). l.ok) (sym c.read_line-line.ensures) ∙ not-true _ c.if-not-line.true in let all = listed c.args.input.now (malformed c.args.input.now not-ok) c.put_refused.ensures in record { room = all.0; length = all.1.0; text = all.1.1 }
 
 -- the text of what planning returns is what is printed
 reply_is : (c : After-plan_of) {outcome : Planned} → c.plan_of.result ≡ outcome → reply_text c.line_table-table.result.hosts outcome ≡ listing c.args.input.now
@@ -28,8 +28,8 @@ reply_is c {outcome} is =
 
 pub returns-in-Accepted : goal.returns-in-Accepted
 unfolding reply_text
-returns-in-Accepted c = let all = listed c.args.input.now (reply_is c.before.before.before.before.before c.in-Accepted.is) c.list_plan.ensures in record { room = all.0; length = all.1.0; text = all.1.1 }
+returns-in-Accepted c = let all = listed c.args.input.now (reply_is (goal.at.returns-in-Accepted c).After-plan_of c.in-Accepted.is) c.list_plan.ensures in record { room = all.0; length = all.1.0; text = all.1.1 }
 
 pub returns-in-Refused : goal.returns-in-Refused
 unfolding reply_text
-returns-in-Refused c = let all = listed c.args.input.now (reply_is c.before.before.before.before.before c.in-Refused.is) c.put_refused-in-Refused.ensures in record { room = all.0; length = all.1.0; text = all.1.1 }
+returns-in-Refused c = let all = listed c.args.input.now (reply_is (goal.at.returns-in-Refused c).After-plan_of c.in-Refused.is) c.put_refused-in-Refused.ensures in record { room = all.0; length = all.1.0; text = all.1.1 }

@@ -10,7 +10,7 @@ pub returns : goal.returns
 unfolding plan_text a_line b_line c_line
 returns c =
     let f = c.strides_of-strides.ensures in
-    let known = c.well-formed in
+    let known = c.well_formed in
     lists (omega arith)
     (then c.put_numbers-a.ensures
     (then (same (side_is f _ (omega (arith, known)) (omega (arith, known))) c.put_side-b.ensures)

@@ -1,6 +1,5 @@
 -- `lister::put_grid` meets its contract.
 use mathlib.Core.Path.{◌≡◌}
-use Prim.Native.Nat.{◌-◌}
 use native.Mathlib.Numerals.{add-one}
 use native.Mathlib.Omega.{arith}
 use Rattle.layout.specs.Internal.{exponent_by}
@@ -13,9 +12,6 @@ use Rattle.lister.proofs.put_grid.Goals as goal
 pub loop-i-init : goal.loop-i-init
 unfolding grid values
 loop-i-init c = record { short = omega arith; is = writes_nothing c.args.out.now c.args.at }
-
-pub put_row-next-requires : goal.put_row-next-requires
-put_row-next-requires c = tt
 
 pub overflow_add-i : goal.overflow_add-i
 overflow_add-i c = omega (arith, c.ranges.rows)

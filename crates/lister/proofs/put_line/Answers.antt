@@ -11,5 +11,5 @@ returns c =
     let value = c.put_value-b in
     let end = c.put_bytes in
     same (sym (line_one c.args.label.now c.args.n))
-    (then (writes c.args.out.now c.args.at c.args.label.now label.ensures)
-    (then value.ensures (writes value.new.0 value.result (ascii "\n") end.ensures)))
+    (then (writes c.args.out.now c.args.at c.args.label.now (label.ensures.end, label.ensures.text))
+    (then value.ensures (writes value.new.out value.result (ascii "\n") (end.ensures.end, end.ensures.text))))

@@ -11,5 +11,5 @@ returns c =
     let label = c.put_bytes-a in
     let places = c.put_grid-b in
     let end = c.put_bytes in
-    then (writes c.args.out.now c.args.at (ascii "C") label.ensures)
-    (then places.ensures (writes places.new.0 places.result (ascii "\n") end.ensures))
+    then (writes c.args.out.now c.args.at (ascii "C") (label.ensures.end, label.ensures.text))
+    (then places.ensures (writes places.new.out places.result (ascii "\n") (end.ensures.end, end.ensures.text)))

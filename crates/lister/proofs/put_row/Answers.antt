@@ -1,6 +1,5 @@
 -- `lister::put_row` meets its contract.
 use mathlib.Core.Path.{◌≡◌}
-use Prim.Native.Nat.{◌-◌}
 use native.Mathlib.Numerals.{add-one}
 use native.Mathlib.Omega.{arith}
 use Rattle.algebra.specs.Lists.{tab}
@@ -13,12 +12,6 @@ use Rattle.lister.proofs.put_row.Goals as goal
 pub loop-j-init : goal.loop-j-init
 unfolding tab values
 loop-j-init c = record { short = omega arith; is = writes_nothing c.args.out.now c.args.at }
-
-pub exponent_of-requires : goal.exponent_of-requires
-exponent_of-requires c = tt
-
-pub put_value-next-requires : goal.put_value-next-requires
-put_value-next-requires c = tt
 
 pub overflow_add-j : goal.overflow_add-j
 overflow_add-j c = omega (arith, c.ranges.columns)

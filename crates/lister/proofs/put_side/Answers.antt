@@ -1,5 +1,5 @@
 -- `lister::put_side` meets its contract.
-use mathlib.Core.List.{◌∷◌}
+use mathlib.Core.List.{[], ◌∷◌}
 use Rattle.text.specs.Ascii.{ascii}
 use Rattle.text.proofs.Writes.{writes, then}
 use Rattle.lister.specs.Listing.{side_line}
@@ -14,7 +14,7 @@ returns c =
     let bar = c.put_bytes-c in
     let masks = c.put_row-d in
     let end = c.put_bytes in
-    then (writes c.args.out.now c.args.at (c.args.line.label ∷ []) label.ensures)
+    then (writes c.args.out.now c.args.at (c.args.line.label ∷ []) (label.ensures.end, label.ensures.text))
     (then blocks.ensures
-    (then (writes blocks.new.0 blocks.result (ascii " |") bar.ensures)
-    (then masks.ensures (writes masks.new.0 masks.result (ascii "\n") end.ensures))))
+    (then (writes blocks.new.out blocks.result (ascii " |") (bar.ensures.end, bar.ensures.text))
+    (then masks.ensures (writes masks.new.out masks.result (ascii "\n") (end.ensures.end, end.ensures.text)))))

@@ -10,5 +10,5 @@ unfolding value
 returns c =
     let space = c.put_bytes-next in
     let digits = c.put_decimal in
-    then (writes c.args.out.now c.args.at (ascii " ") space.ensures)
-    (writes space.new.0 space.result (decimal c.args.n) digits.ensures)
+    then (writes c.args.out.now c.args.at (ascii " ") (space.ensures.end, space.ensures.text))
+    (writes space.new.out space.result (decimal c.args.n) (digits.ensures.end, digits.ensures.text))
