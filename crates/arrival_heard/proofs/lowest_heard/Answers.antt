@@ -1,10 +1,9 @@
 -- `arrival_heard::lowest_heard` meets its contract.
 use mathlib.Core.Path.{◌≡◌, sym, ◌∙◌}
-use mathlib.Core.Logic.{⊎_elim}
-use Prim.Native.Nat.{◌-◌}
 use native.Mathlib.Omega.{arith}
 use Rattle.arrival_heard.proofs.Lowest.{found_none, found_more, found_skip, found_full, found_all}
 use Rattle.arrival_heard.proofs.lowest_heard.Goals as goal
+use Rattle.arrival_heard.proofs.lowest_heard.Goals.{then-n-out+then-is_heard, then-n-out+else-is_heard, else-n-out}
 
 pub loop-index-init : goal.loop-index-init
 loop-index-init c = let a = c.args in record { short = omega arith; so_far = found_none a.heard a.out.now }
@@ -30,12 +29,13 @@ loop-index-preserved c =
     let so_far = c.loop-index.invariant.so_far in
     record {
       short = omega arith;
-      so_far = ⊎_elim
-          (λ w. rw (w.3, w.4) (found_more a.heard a.out.now c.loop-index.out c.loop-index.n c.loop-index.index so_far (sym w.1.ensures ∙ w.2.taken) (omega arith)))
-          (⊎_elim
-          (λ w. rw (w.3, w.4) (found_skip a.heard a.out.now c.loop-index.out c.loop-index.n c.loop-index.index so_far (sym w.1.ensures ∙ w.2.left)))
-          (λ w. rw (w.1, w.2) (found_full a.heard a.out.now c.loop-index.out c.loop-index.n c.loop-index.index so_far (omega arith))))
-          c.if-n-out.branch;
+      so_far = elim c.if-n-out.branch [
+        | then-n-out+then-is_heard w ↦
+            rw (w.out-is, w.n-is) (found_more a.heard a.out.now c.loop-index.out c.loop-index.n c.loop-index.index so_far (sym w.is_heard.ensures ∙ w.if-is_heard.true) (omega arith))
+        | then-n-out+else-is_heard w ↦
+            rw (w.out-is, w.n-is) (found_skip a.heard a.out.now c.loop-index.out c.loop-index.n c.loop-index.index so_far (sym w.is_heard.ensures ∙ w.if-is_heard.false))
+        | else-n-out w ↦ rw (w.out-is, w.n-is) (found_full a.heard a.out.now c.loop-index.out c.loop-index.n c.loop-index.index so_far (omega arith))
+      ];
     }
 
 pub shape_of-out : goal.shape_of-out
