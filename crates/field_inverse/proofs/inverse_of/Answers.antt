@@ -1,30 +1,30 @@
 -- `field_inverse::inverse_of` meets its contract.
 use mathlib.Core.Path.{◌≡◌, sym, ap, ◌∙◌, subst}
+use mathlib.Core.Bool.{Bool}
 use mathlib.Core.Logic.{⊎_elim}
 use Prim.Native.Nat.{ℕ, ◌%◌, ◌^◌, ◌<◌, ◌≤◌}
 use native.Mathlib.Nat.{mod-lt}
 use native.Mathlib.Omega.{arith}
-use borrow.Author.Tests.{ltb-true, ltb-false}
 use Rattle.algebra.specs.Modular.{Prime, inverse}
 use Rattle.algebra.proofs.Orders.{le_or_lt}
+use Rattle.field.specs.declared.Modulus.{Modulus}
 use Rattle.field.specs.Modulus.{prime}
 use Rattle.field.proofs.Moduli.{prime_prime, prime_small}
-use Rattle.field_inverse.proofs.Euclid.{euclid_start, euclid_below, euclid_step, euclid_none, euclid_end, with_sign}
+use Rattle.field_inverse.proofs.Euclid.{Euclid, euclid_start, euclid_below, euclid_step, euclid_none, euclid_end, with_sign}
 use Rattle.field_inverse.proofs.inverse_of.Goals as goal
-use Rattle.field_inverse.proofs.inverse_of.Goals.{After-prime_of-q, Then-next-eq0}
 
 -- the prime, as the code has it
-prime-q : (c : After-prime_of-q → Prime c.prime_of-q.result
-prime-q c = subst Prime (sym c.prime_of-q.ensures) (prime_prime c.args.modulus)
+prime-q : (m : Modulus) {q : ℕ} → q ≡ prime m → Prime q
+prime-q m e = subst Prime (sym e) (prime_prime m)
 
-small-q : (c : After-prime_of-q → c.prime_of-q.result < 2 ^ 31
-small-q c = subst (λ (k : ℕ). k < 2 ^ 31) (sym c.prime_of-q.ensures) (prime_small c.args.modulus)
+small-q : (m : Modulus) {q : ℕ} → q ≡ prime m → q < 2 ^ 31
+small-q m e = subst (λ (k : ℕ). k < 2 ^ 31) (sym e) (prime_small m)
 
 pub loop-next-init : goal.loop-next-init
 loop-next-init c =
     let a = c.args in
     let q = c.prime_of-q in
-    euclid_start q.result a.a c.reduce-next.result (prime-q c.before).above_one
+    euclid_start q.result a.a c.reduce-next.result (prime-q a.modulus q.ensures).above_one
     (c.reduce-next.ensures ∙ ap (λ (k : ℕ). a.a % k) (sym q.ensures))
 
 pub overflow_sub-result : goal.overflow_sub-result
@@ -37,10 +37,10 @@ pub nonzero_rem-remainder : goal.nonzero_rem-remainder
 nonzero_rem-remainder c = omega arith
 
 pub overflow_mul-new_factor : goal.overflow_mul-new_factor
-overflow_mul-new_factor c = omega (arith, small-q c.before.before.before, euclid_below (nonzero_rem-remainder c) c.loop-next.invariant)
+overflow_mul-new_factor c = omega (arith, small-q c.args.modulus c.prime_of-q.ensures, euclid_below (nonzero_rem-remainder c) c.loop-next.invariant)
 
 pub overflow_add-new_factor : goal.overflow_add-new_factor
-overflow_add-new_factor c = omega (arith, small-q c.before.before.before, euclid_below (nonzero_rem-remainder c) c.loop-next.invariant)
+overflow_add-new_factor c = omega (arith, small-q c.args.modulus c.prime_of-q.ensures, euclid_below (nonzero_rem-remainder c) c.loop-next.invariant)
 
 pub loop-next-smaller : goal.loop-next-smaller
 loop-next-smaller c = mod-lt c.loop-next.last (nonzero_rem-remainder c)
@@ -49,29 +49,29 @@ pub loop-next-preserved : goal.loop-next-preserved
 loop-next-preserved c = euclid_step (nonzero_rem-remainder c) c.loop-next.invariant
 
 -- at the break: the last factor is 0, or it is the inverse with its sign
-module _ (c : Then-next-eq0 where
-  abbrev wanted : ℕ
-  wanted = inverse (prime c.args.modulus) c.args.a
+module _ (m : Modulus) (a : ℕ) {q last next last_factor next_factor : ℕ} {minus : Bool} (is : q ≡ prime m) (end : next ≡ 0)
+    (inv : Euclid q a last next last_factor next_factor minus) where
+  is-wanted : inverse q a ≡ inverse (prime m) a
+  is-wanted = ap (λ (k : ℕ). inverse k a) is
 
-  is-wanted : inverse c.prime_of-q.result c.args.a ≡ wanted
-  is-wanted = ap (λ (k : ℕ). inverse k c.args.a) c.prime_of-q.ensures
+  at_none : last_factor ≡ 0 → last_factor ≡ inverse (prime m) a
+  at_none none = euclid_none (prime-q m is) end inv none ∙ is-wanted
 
-  at_none : c.loop-next.last_factor ≡ 0 → c.loop-next.last_factor ≡ wanted
-  at_none none = euclid_none (prime-q c.before.before.before) c.if-next-eq0.true c.loop-next.invariant none ∙ is-wanted
-
-  at-end : 0 < c.loop-next.last_factor
-      → with_sign c.prime_of-q.result c.loop-next.minus c.loop-next.last_factor ≡ wanted
-  at-end some = euclid_end (prime-q c.before.before.before) c.if-next-eq0.true c.loop-next.invariant some ∙ is-wanted
-
+  at-end : 0 < last_factor → with_sign q minus last_factor ≡ inverse (prime m) a
+  at-end some = euclid_end (prime-q m is) end inv some ∙ is-wanted
 
 pub returns-then-last_factor-gt0 : goal.returns-then-last_factor-gt0
 unfolding with_sign
-returns-then-last_factor-gt0 c = rw c.if-minus.true at (at-end c.before.before (ltb-true 0 c.loop-next.last_factor c.if-last_factor-gt0.true))
+returns-then-last_factor-gt0 c =
+    rw c.if-minus.true at
+    (at-end c.args.modulus c.args.a c.prime_of-q.ensures c.if-next-eq0.true c.loop-next.invariant c.if-last_factor-gt0.true)
 
 pub returns-else-minus : goal.returns-else-minus
 unfolding with_sign
 returns-else-minus c =
     let factor = c.loop-next.last_factor in
-    ⊎_elim (λ (none : factor ≤ 0). at_none c.before (omega arith))
-    (λ (some : 0 < factor). ⊎_elim (λ w. absurd (omega (arith, ltb-false 0 factor w.1.left))) (λ w. rw w.left at (at-end c.before some)) c.if-minus.branch)
-    (le_or_lt factor 0)
+    let none = at_none c.args.modulus c.args.a c.prime_of-q.ensures c.if-next-eq0.true c.loop-next.invariant in
+    let end = at-end c.args.modulus c.args.a c.prime_of-q.ensures c.if-next-eq0.true c.loop-next.invariant in
+    ⊎_elim (λ w. none (omega (arith, w.1)))
+    (λ w. ⊎_elim (λ (z : factor ≤ 0). none (omega arith)) (λ (some : 0 < factor). rw w at (end some)) (le_or_lt factor 0))
+    c.else-minus.either
