@@ -1,7 +1,7 @@
 -- `product::multiply_rows` meets its contract.
 use mathlib.Core.Path.{◌≡◌, refl, sym, ap, ◌∙◌}
-use mathlib.Core.List.{List, ◌++◌}
-use Prim.Native.Nat.{ℕ, ◌+◌, ◌-◌, ◌*◌, ◌%◌, ◌≤◌}
+use mathlib.Core.List.{◌++◌}
+use Prim.Native.Nat.{ℕ, ◌+◌, ◌*◌, ◌≤◌}
 use native.Mathlib.Nat.{mul-le-mul_right, add-sub_cancel_left}
 use native.Mathlib.Omega.{arith}
 use lib.ListN.{take, drop, length-drop}
@@ -9,17 +9,13 @@ use lib.Seq.{length-take-le}
 use Rattle.algebra.specs.Lists.{grid}
 use Rattle.algebra.proofs.Lists.{below_part}
 use Rattle.algebra.proofs.Grids.{rows_none, rows_some, rows_all}
-use Rattle.field.specs.declared.Modulus.{Modulus}
 use Rattle.field.specs.Modulus.{prime}
-use Rattle.product.specs.Product.{product_entry, product_of}
+use Rattle.product.specs.Product.{product_of}
 use Rattle.product.specs.Internal.{AtOnce}
 use Rattle.product.proofs.Rows.{part_rows}
+use Rattle.product.proofs.multiply_rows.Invariants.{element}
 use Rattle.product.proofs.multiply_rows.Goals as goal
 use Rattle.product.proofs.multiply_rows.Goals.{After-least-n}
-
--- the product's elements
-element : Modulus → ℕ → ℕ → List ℕ → List ℕ → ℕ → ℕ → ℕ
-element modulus inner columns a b i j = product_entry inner columns a b i j % prime modulus
 
 pub loop-i-init : goal.loop-i-init
 loop-i-init c =
@@ -29,7 +25,7 @@ pub overflow_sub-rows : goal.overflow_sub-rows
 overflow_sub-rows c = omega arith
 
 -- the rows of this turn: one or two of those that are left
-turn : (c : After-least-n
+turn : (c : After-least-n)
     → let a = c.args in
     let i = c.loop-i.i in
     let n = c.least-n.result in
@@ -45,46 +41,46 @@ turn c =
     )
 
 pub overflow_mul-left : goal.overflow_mul-left
-overflow_mul-left c = let t = turn c in omega arith
+overflow_mul-left c = let t = turn (goal.at.overflow_mul-left c).After-least-n in omega arith
 
 pub overflow_mul-left_end : goal.overflow_mul-left_end
-overflow_mul-left_end c = let t = turn c in omega arith
+overflow_mul-left_end c = let t = turn (goal.at.overflow_mul-left_end c).After-least-n in omega arith
 
 pub overflow_add-left_end : goal.overflow_add-left_end
-overflow_add-left_end c = let t = turn c in omega arith
+overflow_add-left_end c = let t = turn (goal.at.overflow_add-left_end c).After-least-n in omega arith
 
 pub overflow_mul-start : goal.overflow_mul-start
-overflow_mul-start c = let t = turn c in omega arith
+overflow_mul-start c = let t = turn (goal.at.overflow_mul-start c).After-least-n in omega arith
 
 pub overflow_mul-end : goal.overflow_mul-end
-overflow_mul-end c = let t = turn c in omega arith
+overflow_mul-end c = let t = turn (goal.at.overflow_mul-end c).After-least-n in omega arith
 
 pub overflow_add-end : goal.overflow_add-end
-overflow_add-end c = let t = turn c in omega arith
+overflow_add-end c = let t = turn (goal.at.overflow_add-end c).After-least-n in omega arith
 
 pub offset_bounds-a-left : goal.offset_bounds-a-left
-offset_bounds-a-left c = let t = turn c in omega arith
+offset_bounds-a-left c = let t = turn (goal.at.offset_bounds-a-left c).After-least-n in omega arith
 
 pub slice_bounds-few_rows-count : goal.slice_bounds-few_rows-count
-slice_bounds-few_rows-count c = let t = turn c in omega arith
+slice_bounds-few_rows-count c = let t = turn (goal.at.slice_bounds-few_rows-count c).After-least-n in omega arith
 
 pub slice_bounds-few_rows-start : goal.slice_bounds-few_rows-start
-slice_bounds-few_rows-start c = let t = turn c in omega arith
+slice_bounds-few_rows-start c = let t = turn (goal.at.slice_bounds-few_rows-start c).After-least-n in omega arith
 
 pub slice_bounds-few_rows-end : goal.slice_bounds-few_rows-end
-slice_bounds-few_rows-end c = let t = turn c in omega arith
+slice_bounds-few_rows-end c = let t = turn (goal.at.slice_bounds-few_rows-end c).After-least-n in omega arith
 
 pub offset_bounds-out-start : goal.offset_bounds-out-start
-offset_bounds-out-start c = let t = turn c.before.before in omega arith
+offset_bounds-out-start c = let t = turn (goal.at.offset_bounds-out-start c).After-least-n in omega arith
 
 pub slice_bounds-few_rows-count-in-loop-i : goal.slice_bounds-few_rows-count-in-loop-i
-slice_bounds-few_rows-count-in-loop-i c = let t = turn c.before.before in omega arith
+slice_bounds-few_rows-count-in-loop-i c = let t = turn (goal.at.slice_bounds-few_rows-count-in-loop-i c).After-least-n in omega arith
 
 pub slice_bounds-few_rows-start-in-loop-i : goal.slice_bounds-few_rows-start-in-loop-i
-slice_bounds-few_rows-start-in-loop-i c = let t = turn c.before.before in omega arith
+slice_bounds-few_rows-start-in-loop-i c = let t = turn (goal.at.slice_bounds-few_rows-start-in-loop-i c).After-least-n in omega arith
 
 pub slice_bounds-few_rows-end-in-loop-i : goal.slice_bounds-few_rows-end-in-loop-i
-slice_bounds-few_rows-end-in-loop-i c = let t = turn c.before.before in omega arith
+slice_bounds-few_rows-end-in-loop-i c = let t = turn (goal.at.slice_bounds-few_rows-end-in-loop-i c).After-least-n in omega arith
 
 pub few_rows-requires : goal.few_rows-requires
 few_rows-requires c =
@@ -92,7 +88,7 @@ few_rows-requires c =
     let i = c.loop-i.i in
     let n = c.least-n.result in
     let out = c.loop-i.out in
-    let t = turn c.before.before.before in
+    let t = turn (goal.at.few_rows-requires c).After-least-n in
     rw (add-sub_cancel_left, add-sub_cancel_left) (
       t.0,
       below_part (prime a.modulus) a.a.now c.requires.0.below_a (n * a.s.inner) (i * a.s.inner),
@@ -104,10 +100,10 @@ few_rows-requires c =
     )
 
 pub overflow_add-i : goal.overflow_add-i
-overflow_add-i c = let t = turn c.before.before.before.before.before.before.before.before in omega arith
+overflow_add-i c = let t = turn (goal.at.overflow_add-i c).After-least-n in omega arith
 
 pub loop-i-smaller : goal.loop-i-smaller
-loop-i-smaller c = let t = turn c.before.before.before.before.before.before.before.before in omega arith
+loop-i-smaller c = let t = turn (goal.at.loop-i-smaller c).After-least-n in omega arith
 
 pub loop-i-preserved : goal.loop-i-preserved
 unfolding element
@@ -115,7 +111,7 @@ loop-i-preserved c =
     let a = c.args in
     let loop = c.loop-i in
     let n = c.least-n.result in
-    let t = turn c.before.before.before.before.before.before.before.before in
+    let t = turn (goal.at.loop-i-preserved c).After-least-n in
     let made = rw add-sub_cancel_left at c.few_rows.ensures in
     let is = made
     ∙ ap (λ (k : ℕ). product_of (prime a.modulus) n a.s.inner k (take (n * a.s.inner) (drop (loop.i * a.s.inner) a.a.now)) a.b.now) loop.invariant.wide
