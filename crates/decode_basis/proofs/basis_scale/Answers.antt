@@ -4,11 +4,11 @@ use Prim.Native.Nat.{ℕ, ◌+◌, ◌-◌, ◌*◌, ◌%◌, ◌<◌}
 use native.Mathlib.Omega.{arith}
 use lib.ListN.{get_or}
 use Rattle.algebra.specs.Modular.{inverse}
+use Rattle.field.specs.declared.Modulus.{Modulus}
 use Rattle.field.specs.Modulus.{prime}
 use Rattle.field.proofs.Moduli.{prime_small}
 use Rattle.decode_basis.proofs.Steps.{residue_below, scale_none, scale_skip, scale_more}
 use Rattle.decode_basis.proofs.basis_scale.Goals as goal
-use Rattle.decode_basis.proofs.basis_scale.Goals.{After-reduce-other, After-reduce-own}
 
 pub loop-i-init : goal.loop-i-init
 loop-i-init c =
@@ -27,34 +27,16 @@ bounds-points-i c = omega arith
 pub overflow_cast-points : goal.overflow_cast-points
 overflow_cast-points c = omega (arith, c.shared_slice_known-in-loop-i-1.given (c.loop-i.i - 1))
 
--- both points, modulo the prime
-own_is : (c : After-reduce-own
-    → c.reduce-own.result ≡ c.args.x % prime c.args.modulus
-own_is c = c.reduce-own.ensures
-
-other-is : (c : After-reduce-other
-    → c.reduce-other.result
-    ≡ get_or c.args.points.now (c.loop-i.i - 1) 0
-    % prime c.args.modulus
-other-is c = c.reduce-other.ensures
-
--- both are below it
-small : (c : After-reduce-other
-    → (c.reduce-own.result < c.prime_of-q.result)
-    × (c.reduce-other.result < c.prime_of-q.result)
-small c =
-    let a = c.args in
-    let q = c.prime_of-q.ensures in (
-      omega (arith, own_is c.before.before.before.before, q, residue_below a.modulus a.x),
-      omega (arith, other-is c, q, residue_below a.modulus (get_or a.points.now (c.loop-i.i - 1) 0)),
-    )
+-- the points, modulo the prime, are below it
+small : (m : Modulus) (x : ℕ) {q k : ℕ} → q ≡ prime m → k ≡ x % prime m → k < q
+small m x e is = omega (arith, residue_below m x)
 
 pub overflow_sub-difference : goal.overflow_sub-difference
-overflow_sub-difference c = omega (arith, small c.before)
+overflow_sub-difference c = omega (arith, small c.args.modulus c.args.x c.prime_of-q.ensures c.reduce-own.ensures, small c.args.modulus (get_or c.args.points.now (c.loop-i.i - 1) 0) c.prime_of-q.ensures c.reduce-other.ensures)
 
 pub overflow_add-difference : goal.overflow_add-difference
 overflow_add-difference c =
-    omega (arith, small c.before, c.prime_of-q.ensures, prime_small c.args.modulus)
+    omega (arith, small c.args.modulus c.args.x c.prime_of-q.ensures c.reduce-own.ensures, small c.args.modulus (get_or c.args.points.now (c.loop-i.i - 1) 0) c.prime_of-q.ensures c.reduce-other.ensures, c.prime_of-q.ensures, prime_small c.args.modulus)
 
 pub loop-i-smaller-then-own-other : goal.loop-i-smaller-then-own-other
 loop-i-smaller-then-own-other c = omega arith
@@ -64,8 +46,8 @@ loop-i-preserved-then-own-other c =
     let a = c.args in
     let q = prime a.modulus in
     let y = get_or a.points.now (c.loop-i.i - 1) 0 in
-    let own = own_is c.before.before.before.before.before.before.before in
-    let other = other-is c.before.before.before in
+    let own = c.reduce-own.ensures in
+    let other = c.reduce-other.ensures in
     let difference : c.reduce-own.result + (c.prime_of-q.result - c.reduce-other.result) ≡ a.x % q + (q - y % q)
     = ap₂ (λ (k d : ℕ). k + d) own (ap₂ (λ (k d : ℕ). k - d) c.prime_of-q.ensures other) in
     let inverse-is : c.inverse_of-inverse.result ≡ inverse q (a.x % q + (q - y % q)) = c.inverse_of-inverse.ensures ∙ ap (inverse q) difference in
@@ -84,7 +66,7 @@ pub loop-i-preserved : goal.loop-i-preserved
 loop-i-preserved c =
     let a = c.args in
     let q = prime a.modulus in
-    let same : a.x % q ≡ get_or a.points.now (c.loop-i.i - 1) 0 % q = sym (own_is c.before.before.before.before.before) ∙ c.if-own-other.false ∙ other-is c.before in
+    let same : a.x % q ≡ get_or a.points.now (c.loop-i.i - 1) 0 % q = sym (c.reduce-own.ensures) ∙ c.if-own-other.false ∙ c.reduce-other.ensures in
     record {
       is = c.loop-i.invariant.is ∙ scale_skip q a.x a.points.now c.loop-i.i (omega arith) (omega arith) same;
       short = omega arith;

@@ -1,6 +1,6 @@
 -- `decode_basis::basis_scale` meets its contract.
 use mathlib.Core.Path.{◌≡◌}
-use Prim.Native.Nat.{◌-◌, ◌≤◌}
+use Prim.Native.Nat.{◌≤◌}
 use lib.ListN.{length, drop}
 use Rattle.field.specs.Modulus.{prime}
 use Rattle.decode_basis.specs.Internal.{basis_scale}

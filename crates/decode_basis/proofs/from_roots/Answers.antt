@@ -12,7 +12,7 @@ use Rattle.decode_basis.proofs.from_roots.Goals as goal
 use Rattle.decode_basis.proofs.from_roots.Goals.{After-set_one}
 
 -- as many coefficients as have room
-room : (c : After-set_one → length c.set_one.new.0 ≡ length c.args.out.now
+room : (c : After-set_one) → length c.set_one.new.out ≡ length c.args.out.now
 room c = ap length c.set_one.ensures ∙ length_tab _ (length c.args.out.now)
 
 pub loop-i-init : goal.loop-i-init
@@ -23,7 +23,7 @@ loop-i-init c =
       is =
           c.set_one.ensures
           ∙ product_none q a.points.now (length a.out.now) (prime_prime a.modulus).above_one
-          ∙ ap (coefficients q (root_product q (drop (length a.points.now) a.points.now))) (sym (room c.before.before));
+          ∙ ap (coefficients q (root_product q (drop (length a.points.now) a.points.now))) (sym (room (goal.at.loop-i-init c).After-set_one));
       short = omega arith;
     }
 
@@ -46,13 +46,13 @@ loop-i-preserved c =
     record {
       is =
           c.times_root.ensures
-          ∙ product_more q a.points.now (length c.set_one.new.0) c.loop-i.out c.loop-i.i (omega arith) (omega arith) c.loop-i.invariant.is;
+          ∙ product_more q a.points.now (length c.set_one.new.out) c.loop-i.out c.loop-i.i (omega arith) (omega arith) c.loop-i.invariant.is;
       short = omega arith;
     }
 
 pub shape_of-out : goal.shape_of-out
 shape_of-out c =
-    ap length c.loop-i.invariant.is ∙ length_coefficients _ _ (length c.set_one.new.0) ∙ room c.before.before.before.before
+    ap length c.loop-i.invariant.is ∙ length_coefficients _ _ (length c.set_one.new.out) ∙ room (goal.at.shape_of-out c).After-set_one
 
 pub returns : goal.returns
 returns c =
@@ -60,4 +60,4 @@ returns c =
     let q = prime a.modulus in
     let all : c.loop-i.i ≡ 0 = omega arith in
     c.loop-i.invariant.is
-    ∙ ap₂ (λ (i n : ℕ). coefficients q (root_product q (drop i a.points.now)) n) all (room c.before.before.before.before)
+    ∙ ap₂ (λ (i n : ℕ). coefficients q (root_product q (drop i a.points.now)) n) all (room (goal.at.returns c).After-set_one)
