@@ -4,9 +4,8 @@
 
 ghost use Rattle.std.specs.Prelude.{◌≡◌, length};
 
-use libc::STDIN_FILENO;
 use masks::Drawn;
-use program_lines::{say, say_fault, say_front, say_number, say_refused};
+use program_lines::{STDIN_FILENO, say, say_fault, say_front, say_number, say_refused};
 use text_numbers::{ReadOutcome, past_mark};
 use words::least;
 

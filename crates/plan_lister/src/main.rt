@@ -1,7 +1,11 @@
 // The plan lister as a program: one line of ten numbers on standard input, the plan or a refusal on standard output.
 #![tactic(auto)]
 
-use libc::{STDIN_FILENO, STDOUT_FILENO};
+// The file descriptor of standard input.
+const STDIN_FILENO: i32 = 0;
+
+// The file descriptor of standard output.
+const STDOUT_FILENO: i32 = 1;
 
 fn main() {
     // A line has at most 60 bytes, so a longer input is seen to be no line.

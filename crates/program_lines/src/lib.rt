@@ -1,7 +1,11 @@
 // Lines to standard output, for the programs over plain text. What is printed is not proved, but compared.
 #![tactic(auto)]
 
-use libc::STDOUT_FILENO;
+// The file descriptor of standard input.
+pub const STDIN_FILENO: i32 = 0;
+
+// The file descriptor of standard output.
+pub const STDOUT_FILENO: i32 = 1;
 
 // Prints some bytes.
 pub fn say(bytes: &[u8]) {

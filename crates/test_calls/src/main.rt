@@ -7,12 +7,12 @@ ghost use Rattle.std.specs.Prelude.{◌≡◌, ◌≤◌, length};
 ghost use Rattle.io.specs.Counts.{IsPrefixLen};
 
 use field_signed::{Element, Signed};
-use libc::STDOUT_FILENO;
 use masks::Drawn;
 use message::Parsed;
 use message_header::Header;
 use plan::{Job, Planned};
 use share::Matrix;
+use test_io::STDOUT_FILENO;
 use words::least;
 
 // Where the lists of a case end, one after another.

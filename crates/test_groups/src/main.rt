@@ -6,12 +6,14 @@
 ghost use Rattle.std.specs.Prelude.{◌≡◌, ◌<◌, ◌≤◌, length};
 
 use arrival::Arrived;
-use libc::STDOUT_FILENO;
 use message_header::Header;
 use plan::Job;
 use share::Matrix;
 use std::num::wrapping_add_u32;
 use words::least;
+
+// The file descriptor of standard output.
+const STDOUT_FILENO: i32 = 1;
 
 // The hosts, and how many answers are needed.
 const HOSTS: usize = 20;

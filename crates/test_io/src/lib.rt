@@ -4,8 +4,13 @@
 ghost use Rattle.std.specs.Prelude.{◌≡◌, ◌≤◌, length, drop};
 ghost use Rattle.io.specs.Counts.{IsPrefixLen};
 
-use libc::{STDIN_FILENO, STDOUT_FILENO};
 use words::least;
+
+// The file descriptor of standard input.
+pub const STDIN_FILENO: i32 = 0;
+
+// The file descriptor of standard output.
+pub const STDOUT_FILENO: i32 = 1;
 
 // How many words are read at once, at most, and their bytes; and how many are written.
 const MOST_READ: usize = 32896;

@@ -5,7 +5,11 @@
 
 ghost use Rattle.std.specs.Prelude.{◌≤◌, ◌<◌, length};
 
-use libc::{STDIN_FILENO, STDOUT_FILENO};
+// The file descriptor of standard input.
+const STDIN_FILENO: i32 = 0;
+
+// The file descriptor of standard output.
+const STDOUT_FILENO: i32 = 1;
 
 // A byte as a length.
 fn wide(byte: u8) -> usize

@@ -13,10 +13,9 @@ mod sections; // the sections of the text
 mod sharing; // shares for all hosts
 mod tables; // the table, decoded and printed, and its kinship page
 
-use libc::STDIN_FILENO;
 use lister::LISTING_ROOM;
 use planning::{Prepared, Whole};
-use program_lines::{say, say_refused};
+use program_lines::{STDIN_FILENO, say, say_refused};
 use rooms::{
     answer_size, block_room, blocks, element_room, lines_room, message_room, page_room, pair_room,
     share_room,
