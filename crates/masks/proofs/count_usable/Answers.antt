@@ -1,9 +1,8 @@
 -- `masks::count_usable` meets its contract: its loop knows the prime by the last usable word alone.
-use mathlib.Core.Logic.{⊎_elim}
-use Prim.Native.Nat.{◌-◌}
 use native.Mathlib.Omega.{arith}
 use Rattle.masks.proofs.Loops.{usable_at, skipped_at, counted_none, counted_usable, counted_skipped, counted_all}
 use Rattle.masks.proofs.count_usable.Goals as goal
+use Rattle.masks.proofs.count_usable.Goals.{then-words-i, else-words-i}
 
 pub loop-i-init : goal.loop-i-init
 loop-i-init c = record { few = omega arith; most = omega arith; so_far = λ q e. counted_none _ _ }
@@ -28,12 +27,12 @@ loop-i-preserved c =
     let so_far = c.loop-i.invariant.so_far in
     record {
       few = omega arith;
-      most = ⊎_elim (λ w. omega arith) (λ w. omega arith) c.if-words-i.branch;
+      most = elim c.if-words-i.branch [ then-words-i w ↦ omega arith | else-words-i w ↦ omega arith ];
       so_far = λ q e.
-          ⊎_elim
-          (λ w. rw w.1 (counted_usable q _ _ _ (so_far q e) (omega arith) (usable_at q _ e w.0.taken)))
-          (λ w. rw w.1 (counted_skipped q _ _ _ (so_far q e) (omega arith) (skipped_at q _ e w.0.left)))
-          c.if-words-i.branch;
+          elim c.if-words-i.branch [
+            | then-words-i w ↦ rw w.n-is (counted_usable q _ _ _ (so_far q e) (omega arith) (usable_at q _ e w.if-words-i.true))
+            | else-words-i w ↦ rw w.n-is (counted_skipped q _ _ _ (so_far q e) (omega arith) (skipped_at q _ e w.if-words-i.false))
+          ];
     }
 
 pub returns : goal.returns

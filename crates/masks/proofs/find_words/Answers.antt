@@ -1,6 +1,5 @@
 -- `masks::find_words` meets its contract.
 use mathlib.Core.Path.{◌≡◌, ap, ◌∙◌}
-use mathlib.Core.List.{List}
 use Prim.Native.Nat.{ℕ, ◌+◌, ◌-◌, ◌≤◌}
 use native.Mathlib.Omega.{arith}
 use lib.ListN.{length, take, drop, length-drop}
@@ -12,7 +11,7 @@ use Rattle.masks.proofs.Steps.{kept_few}
 use Rattle.masks.proofs.Loops.{searched_none, searched_part, searched_few, searched_all}
 use Rattle.masks.proofs.Outcomes.{found_few, found_enough}
 use Rattle.masks.proofs.find_words.Goals as goal
-use Rattle.masks.proofs.find_words.Goals.{After-count_usable-left, At-loop-left}
+use Rattle.masks.proofs.find_words.Goals.{After-count_usable-left}
 
 pub loop-left-init : goal.loop-left-init
 loop-left-init c = record { few = omega arith; so_far = searched_none _ _ _ }
@@ -39,27 +38,18 @@ pub slice_bounds-count_usable-end : goal.slice_bounds-count_usable-end
 slice_bounds-count_usable-end c = omega arith
 
 -- the words that are counted: as many as there are elements left, and no more of them are usable
-module _ (c : After-count_usable-left where
-  abbrev at : At-loop-left
-  at = c.before.before.before.before
+counted : (c : After-count_usable-left) → c.count_usable-left.result ≡ length (kept (prime c.args.modulus) (take c.loop-left.left (drop c.loop-left.end c.args.words.now)))
+counted c =
+    let size : c.loop-left.end + c.loop-left.left - c.loop-left.end ≡ c.loop-left.left = omega arith in
+    c.count_usable-left.ensures ∙ ap (λ (n : ℕ). length (kept (prime c.args.modulus) (take n (drop c.loop-left.end c.args.words.now)))) size
 
-  abbrev words : List ℕ
-  words = at.before.before.args.words.now
-
-  abbrev q : ℕ
-  q = prime at.before.before.args.modulus
-
-  counted : c.count_usable-left.result ≡ length (kept q (take at.loop.left (drop at.loop.end words)))
-  counted =
-      let size : at.loop.end + at.loop.left - at.loop.end ≡ at.loop.left = omega arith in
-      c.count_usable-left.ensures ∙ ap (λ (n : ℕ). length (kept q (take n (drop at.loop.end words)))) size
-
-  few : c.count_usable-left.result ≤ at.loop.left
-  few =
-      let rest = drop at.loop.end words in
-      let size : at.loop.left ≤ length rest = omega (arith, length-drop at.loop.end words) in
-      omega (arith, counted, kept_few q (take at.loop.left rest), length-take-le at.loop.left rest size)
-
+few : (c : After-count_usable-left) → c.count_usable-left.result ≤ c.loop-left.left
+few c =
+    let words = c.args.words.now in
+    let l = c.loop-left in
+    let rest = drop l.end words in
+    let size : l.left ≤ length rest = omega (arith, length-drop l.end words) in
+    omega (arith, counted c, kept_few (prime c.args.modulus) (take l.left rest), length-take-le l.left rest size)
 
 pub overflow_sub-left : goal.overflow_sub-left
 overflow_sub-left c = few c
@@ -69,7 +59,7 @@ loop-left-smaller c = omega arith
 
 pub loop-left-preserved : goal.loop-left-preserved
 loop-left-preserved c =
-    record { few = omega arith; so_far = searched_part (at c).loop.invariant.so_far (omega arith) (counted c) }
+    record { few = omega arith; so_far = searched_part c.loop-left.invariant.so_far (omega arith) (counted (goal.at.loop-left-preserved c).After-count_usable-left) }
 
 pub returns : goal.returns
 returns c =

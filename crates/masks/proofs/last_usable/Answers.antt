@@ -21,7 +21,6 @@ module _ (c : After-prime_of-q) where
   abbrev most : 4294967296 / q * q ≤ 4294967296
   most = div-mul-le_self 4294967296 q
 
-
 pub nonzero_div-result : goal.nonzero_div-result
 nonzero_div-result c = positive c
 

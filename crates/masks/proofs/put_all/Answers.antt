@@ -1,6 +1,5 @@
 -- `masks::put_all` meets its contract.
 use mathlib.Core.Path.{refl, sym, ◌∙◌}
-use Prim.Native.Nat.{◌-◌}
 use native.Mathlib.Omega.{arith}
 use lib.ListN.{length-set}
 use Rattle.masks.proofs.Loops.{put_none, put_full, put_usable, put_all}

@@ -1,12 +1,11 @@
 -- `masks::put_usable` meets its contract.
 use mathlib.Core.Path.{refl, ◌∙◌}
-use mathlib.Core.Logic.{⊎_elim}
-use Prim.Native.Nat.{◌-◌, ◌<◌}
+use Prim.Native.Nat.{◌<◌}
 use native.Mathlib.Omega.{arith}
-use lib.ListN.{length, length-set}
+use lib.ListN.{length}
 use Rattle.masks.proofs.Loops.{usable_at, skipped_at, put_none, put_room, put_usable, put_skipped, put_all}
 use Rattle.masks.proofs.put_usable.Goals as goal
-use Rattle.masks.proofs.put_usable.Goals.{After-element_of}
+use Rattle.masks.proofs.put_usable.Goals.{After-element_of, then-word-last, else-word-last}
 
 pub loop-i-init : goal.loop-i-init
 loop-i-init c = record { is_last = c.last_usable-last.ensures; few = omega arith; same = refl; so_far = put_none _ _ _ c.requires }
@@ -18,7 +17,7 @@ pub bounds-words-i : goal.bounds-words-i
 bounds-words-i c = omega arith
 
 -- there is room for the remainder
-room : (c : After-element_of → c.loop-i.n < length c.loop-i.out
+room : (c : After-element_of) → c.loop-i.n < length c.loop-i.out
 room c =
     put_room c.loop-i.invariant.so_far (omega arith) (usable_at _ _ c.loop-i.invariant.is_last c.if-word-last.true)
 
@@ -44,12 +43,12 @@ loop-i-preserved c =
       is_last = i.is_last;
       few = omega arith;
       same =
-          ⊎_elim (λ w. rw w.2 (length-set c.loop-i.out c.loop-i.n w.1.result ∙ i.same)) (λ w. rw w.1 i.same) c.if-word-last.branch;
+          c.if-word-last.auto.out ∙ i.same;
       so_far =
-          ⊎_elim
-          (λ w. rw (w.2, w.3) (put_usable i.so_far (omega arith) (usable_at _ _ i.is_last w.0.taken) w.1.ensures))
-          (λ w. rw (w.1, w.2) (put_skipped i.so_far (omega arith) (skipped_at _ _ i.is_last w.0.left)))
-          c.if-word-last.branch;
+          elim c.if-word-last.branch [
+            | then-word-last w ↦ rw (w.out-is, w.n-is) (put_usable i.so_far (omega arith) (usable_at _ _ i.is_last w.if-word-last.true) w.element_of.ensures)
+            | else-word-last w ↦ rw (w.out-is, w.n-is) (put_skipped i.so_far (omega arith) (skipped_at _ _ i.is_last w.if-word-last.false))
+          ];
     }
 
 pub returns : goal.returns
