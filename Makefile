@@ -20,7 +20,7 @@ command = target/cli/release/mukerihe
 root = $(DESTDIR)$(PREFIX)
 
 # The libraries are proved from these; rt finds out which of them have changed.
-proved := crates.txt $(shell find crates -name '*.rt' -o -name '*.antt')
+proved := crates.txt $(shell find crates -name out -prune -o -name '*.rt' -print -o -name '*.antt' -print)
 sources := include/mukerihe.rs cli/Cargo.toml cli/Cargo.lock cli/build.rs $(wildcard cli/src/*.rs)
 
 .PHONY: all demo check install uninstall
@@ -29,13 +29,9 @@ sources := include/mukerihe.rs cli/Cargo.toml cli/Cargo.lock cli/build.rs $(wild
 
 all: $(command)
 
-$(host): $(proved)
-	rt staticlib mukerihe
-	touch $@
-
-$(bank): $(proved)
-	rt staticlib mukerihe_bank
-	touch $@
+$(host) $(bank) &: $(proved)
+	bash tools/build.sh libraries
+	touch $(host) $(bank)
 
 $(command): $(host) $(bank) $(sources)
 	CARGO_TARGET_DIR=target/cli RUSTFLAGS='-D warnings -C target-feature=+crt-static' \

@@ -16,7 +16,7 @@ fi
 "${flint[@]}"
 
 library=${1:-target/staticlib}
-[ $# -gt 0 ] || rt staticlib mukerihe
+[ $# -gt 0 ] || bash tools/build.sh libraries
 
 room=$(mktemp -d)
 trap 'rm -rf "$room"' EXIT

@@ -17,8 +17,7 @@ fi
 
 library=${1:-target/staticlib}
 if [ $# -eq 0 ]; then
-    rt staticlib mukerihe
-    rt staticlib mukerihe_bank
+    bash tools/build.sh libraries
 fi
 
 bash bench/product.sh "$library"

@@ -1,5 +1,5 @@
 //! Links libmukerihe_bank.a and libmukerihe.a from the folder $MUKERIHE_LIBRARIES, or from
-//! ../target/staticlib, where `rt staticlib` puts them.
+//! ../target/staticlib, where `tools/build.sh` puts them.
 
 use std::env::var_os;
 use std::path::PathBuf;

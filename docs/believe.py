@@ -31,7 +31,7 @@ RELATION = re.compile(r"[≡≤<↔≈]")
 OPENING = re.compile(r"^(\s*)(?:unfoldable |abbrev )?pub (?:(?:record|data) )?([^\s:]+)(?=[\s:])")
 NESTED = re.compile(r"^\s+(?:unfoldable|abbrev) pub ")
 USE = re.compile(r"^use (\S+?)\.\{([^}]*)\}", re.M)
-OURS = re.compile(r"Rattle·(\w+?)(?:·specs)?\.specs\.(\S+)")
+OURS = re.compile(r"Rattle\.(?!std\.)(\w+)\.specs\.(\S+)")
 TYPE = re.compile(r"^pub (?:struct|enum) (\w+)[^{;]*\{\n(?:.*\n)*?\}", re.M)
 
 
@@ -73,7 +73,7 @@ def words_of(lines):
 
 def stands(name, words):
     """A name stands among some words; of an operator, each of its parts does."""
-    return all(part in words for part in name.split("_") if part)
+    return all(part in words for part in name.split("◌") if part)
 
 
 def read_all():
@@ -93,7 +93,7 @@ def types_within(crate, path, lines, types):
     """The structs and enums that another one holds."""
     text = path.read_text()
     for word in set(re.findall(r"\b[A-Z]\w+", "\n".join(lines[1:]))):
-        other = re.search(rf"^(?:pub )?use (\w+)::{word};", text, re.M)
+        other = re.search(rf"^(?:pub )?use (\w+)::(?:{word}|\{{[^}}]*\b{word}\b[^}}]*\}});", text, re.M)
         home = other[1] if other else crate
         if (home, word) in types:
             yield home, f"declared.{word}", word
@@ -129,7 +129,7 @@ def believed():
 
 def reading_order(paths, files):
     """The files, each after those that it uses, the crates as crates.txt has them."""
-    crates = re.findall(r"^(\w+):", (TOP / "crates.txt").read_text(), re.M)
+    crates = re.findall(r"^(\w+)(?: staticlib)?:", (TOP / "crates.txt").read_text(), re.M)
     uses = {file.path: {files[m[1], m[2]].path for m in map(OURS.match, (b[0] for b in file.brings.values())) if m and (m[1], m[2]) in files}
             for file in files.values()}
     order = []
@@ -181,7 +181,7 @@ def page():
         "",
         "The three demands are the records `Demand1`, `Demand2` and `Demand3`; of the requests, U1 is the record `Retried`, U2 `Layouts`, U3 `DrawnMasks`, U4 `DecodedNumbers` and U7 `Windowed`",
         "(`crates/promise/specs`), and U6 is `PageTexts` (`crates/page/specs`). Who wants to see that they say what the papers say reads the definitions and the statements below, each file after those that",
-        "it uses, and needs nothing else. All else in `specs/` is how the code does it, in files named `Contracts`, or what is promised beside these, as",
+        "it uses, and needs nothing else. All else in `specs/` is how the code does it, in files named `Internal`, or what is promised beside these, as",
         "what the lister prints and, of U7, that it knows no window (`Prints` and `Unseen`, `crates/lister/specs`). Everything",
         "in `proofs/` is checked by the prover.",
         "",

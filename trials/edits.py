@@ -1,9 +1,9 @@
 #!/usr/bin/env python3
 """Tries edits in copies of the repository: the prover must refuse each.
 
-    trials/edits.py [FOLDER]    FOLDER has edits, a folder for each crate; without it, trials/edits
+    trials/edits.py [FOLDER]    FOLDER has edits, a folder for each crate; without it, those of crates/*/must-fail and of trials/edits
 
-Each crate is first checked as it is. An edit is then put into a copy, and `rt dev` checks the crate again: it takes what the edit
+Each crate is first checked as it is. An edit is then put into a copy, and `rt check` checks the crate again: it takes what the edit
 leaves as it was from that first check, so an edit costs what it touches, and not its whole crate. What the prover said of each is in
 target/trials, CRATE/LABEL/.log, for trials/judge.py. It prints a line for each, and ends with 0 where all are refused.
 """
@@ -24,15 +24,17 @@ LOGS = ROOT / "target" / "trials"
 # What becomes of an edit.
 REFUSED, SURVIVED, UNFIT = "refused", "NOT REFUSED", "BAD EDIT"
 
-# A room is a copy of all that is proved, some 400 MB.
+# A check takes up to 2 GB of memory.
 MOST_ROOMS = 4
 
 LINE = re.compile(r"^(file|old|new): ?(.*)$")
 
 
-def copy(source, folder):
-    """Copies a folder, or a file, to a place that is not there yet."""
-    subprocess.run(["cp", "-R", source, folder], check=True)
+def copy(crate, folder):
+    """Copies a crate's folder to a place that is not there yet; what was proved of it, which a check replaces and never changes, by links."""
+    folder.mkdir(parents=True)
+    for part in crate.iterdir():
+        subprocess.run(["cp", "-Rl" if part.name == "out" else "-R", part, folder / part.name], check=True)
 
 
 def changed(crate, edit):
@@ -59,48 +61,26 @@ def changed(crate, edit):
 
 
 class Rooms:
-    """Copies of the repository, one for each processor, four at most; `kept` has what the first check of each crate kept."""
+    """Copies of the repository, one for each processor, four at most."""
 
-    def __init__(self, folder, crates):
-        self.kept = folder / "kept"
-        self.kept.mkdir()
+    def __init__(self, folder):
         self.free = Queue()
         self.count = min(MOST_ROOMS, len(os.sched_getaffinity(0)))
         for i in range(self.count):
             room = folder / f"room{i}"
             room.mkdir()
-            for part in ("crates.txt", "crates", "target"):
-                copy(ROOT / part, room / part)
-            shutil.rmtree(room / "target" / "inc", ignore_errors=True)
-            (room / "target" / "inc").mkdir()
-            self.free.put(room)
-        with ThreadPoolExecutor(self.count) as pool:
-            list(pool.map(self.first_check, crates))
-
-    def check(self, room, crate):
-        """Checks a crate in a room: the exit status of the prover and all that it said."""
-        run = subprocess.run(["rt", "dev", crate], cwd=room, stdin=subprocess.DEVNULL, stdout=subprocess.PIPE, stderr=subprocess.STDOUT)
-        return run.returncode, run.stdout
-
-    def first_check(self, crate):
-        """Checks a crate as it is, and keeps what the check keeps."""
-        room = self.free.get()
-        try:
-            status, said = self.check(room, crate)
-            if status != 0:
-                sys.exit(f"edits: {crate} is not proved as it is:\n{said.decode()[-2000:]}")
-            shutil.move(room / "target" / "inc" / crate, self.kept / crate)
-        finally:
+            shutil.copy(ROOT / "crates.txt", room)
+            for crate in (ROOT / "crates").iterdir():
+                copy(crate, room / "crates" / crate.name)
             self.free.put(room)
 
-    def try_edit(self, edit):
+    def try_edit(self, work):
         """Tries an edit, prints what becomes of it, and keeps its log."""
-        crate, label, began = edit.parent.name, edit.stem, time.monotonic()
+        crate, edit = work
+        label, began = edit.stem, time.monotonic()
         room = self.free.get()
         try:
-            copy(self.kept / crate, room / "target" / "inc" / crate)
-            verdict, more = self.verdict(room, crate, edit)
-            shutil.rmtree(room / "target" / "inc" / crate)
+            verdict, more = self.verdict(room / "crates" / crate, edit)
             shutil.rmtree(room / "crates" / crate)
             copy(ROOT / "crates" / crate, room / "crates" / crate)
         finally:
@@ -108,32 +88,39 @@ class Rooms:
         print(f"edits: {crate}/{label}: {verdict}{more} ({time.monotonic() - began:.1f} s)", flush=True)
         return f"{crate}/{label}", verdict
 
-    def verdict(self, room, crate, edit):
+    def verdict(self, crate, edit):
         """What becomes of an edit, and more about one that does not fit."""
-        unfit = changed(room / "crates" / crate, edit)
+        unfit = changed(crate, edit)
         if unfit:
             return UNFIT, f": {unfit}"
-        status, said = self.check(room, crate)
-        log = LOGS / crate / edit.stem / ".log"
+        run = subprocess.run(["rt", "check", "--jobs", "1"], cwd=crate, stdin=subprocess.DEVNULL, stdout=subprocess.PIPE, stderr=subprocess.STDOUT)
+        log = LOGS / crate.name / edit.stem / ".log"
         log.parent.mkdir(parents=True)
-        log.write_bytes(said.replace(bytes(room / "crates" / crate), bytes(log.parent)))
-        if status == 1 and re.search(rb"^logic=not-proved", said, re.M):
+        log.write_bytes(run.stdout)
+        if run.returncode == 1 and re.search(rb"^logic=not-proved", run.stdout, re.M):
             return REFUSED, ""
-        if status == 0:
+        if run.returncode == 0:
             return SURVIVED, ""
-        return UNFIT, f": it did not reach the prover (exit {status})"
+        return UNFIT, f": it did not reach the prover (exit {run.returncode})"
 
 
-def tried(folder):
-    """Tries all edits of a folder: what becomes of each, by CRATE/LABEL."""
-    edits = sorted(folder.glob("*/*.edit"))
-    crates = sorted({edit.parent.name for edit in edits})
+def edits_of(folder):
+    """The edits of a folder, or of both sets, each with its crate."""
+    if folder:
+        return [(edit.parent.name, edit) for edit in sorted(folder.glob("*/*.edit"))]
+    own = [(edit.parent.parent.name, edit) for edit in sorted(ROOT.glob("crates/*/must-fail/*.edit"))]
+    return sorted(own + edits_of(ROOT / "trials" / "edits"), key=lambda work: (work[0], work[1].name))
+
+
+def tried(edits):
+    """Tries all edits: what becomes of each, by CRATE/LABEL."""
     shutil.rmtree(LOGS, ignore_errors=True)
-    ran = subprocess.run(["rt", "check", *crates], cwd=ROOT, stdout=subprocess.PIPE, stderr=subprocess.STDOUT, text=True)
+    ran = subprocess.run(["rt", "all", "check"], cwd=ROOT, stdout=subprocess.PIPE, stderr=subprocess.STDOUT, text=True)
     if ran.returncode != 0:
         sys.exit(f"edits: the crates are not proved as they are:\n{ran.stdout[-2000:]}")
-    with tempfile.TemporaryDirectory() as room:
-        rooms = Rooms(Path(room).resolve(), crates)
+    LOGS.mkdir(parents=True)
+    with tempfile.TemporaryDirectory(dir=ROOT / "target") as room:
+        rooms = Rooms(Path(room).resolve())
         with ThreadPoolExecutor(rooms.count) as pool:
             return dict(pool.map(rooms.try_edit, edits))
 
@@ -143,7 +130,7 @@ def main():
     if len(words) > 1:
         sys.exit(__doc__)
     began = time.monotonic()
-    verdicts = tried(Path(words[0]) if words else ROOT / "trials" / "edits")
+    verdicts = tried(edits_of(Path(words[0]) if words else None))
     refused = sum(verdict == REFUSED for verdict in verdicts.values())
     print(f"edits: {refused} of {len(verdicts)} refused, {time.monotonic() - began:.0f} s")
     sys.exit(0 if verdicts and refused == len(verdicts) else 1)

@@ -1,12 +1,12 @@
 #!/usr/bin/env python3
 """Judges the logs of edits: each wrong program must be refused because a fact no longer holds, at the place that the list has.
 
-    trials/judge.py ci|trials LOGS           holds trials/edits.txt, the edit files and the logs of one set to each other
-    trials/judge.py places ci|trials LOGS    prints the lines of the list as the logs have them: read the logs before they go in
+    trials/judge.py LOGS           holds trials/edits.txt, the edit files and the logs to each other
+    trials/judge.py places LOGS    prints the lines of the list as the logs have them: read the logs before they go in
 
-LOGS has a folder for each crate, and in it one for each edit, LABEL/.log: target/must-fail after `rt ci` or `rt must-fail`,
-target/trials after `trials/edits.py`. The set ci has the edits of the crates' must-fail folders, the set trials those of
-trials/edits. It prints one line and ends with 0 where all is well; else it names each edit with what is wrong, and ends with 1.
+LOGS has a folder for each crate, and in it one for each edit, LABEL/.log: target/trials after `trials/edits.py`. The set ci has the
+edits of the crates' must-fail folders, the set trials those of trials/edits. It prints one line and ends with 0 where all is well;
+else it names each edit with what is wrong, and ends with 1.
 """
 import re
 import sys
@@ -25,12 +25,12 @@ ERROR = re.compile(r"^(\S+?):\d+:\d+: error(\[[\w-]+\])?: (?:`([^`]+)`: )?(.*)")
 NOTE = re.compile(r"^note: (\S+?):\d+:\d+: .*\(`([^`]+)`\)")
 NO_PROOF = re.compile(r"^fn \w+::(\S+): no proof", re.M)
 
-# What a log has where the text of the edit, or the proof beside it, was not understood.
+# What the prover says where a proof file names what the edit took away, or cites such a proof: that alone says nothing of a contract,
+# and where it stands beside a fact that no longer holds it says nothing against it.
+NAMES = re.compile(r"has no field|is not in scope|has no `|was not admitted|was rejected, (was|were) not checked")
+
+# What a log has where the proof beside the edit was not understood.
 UNFIT = [
-    (r"has no `Need-", "the proof file no longer fits the code"),
-    (r"record `[^`]*` has no field", "the proof file no longer fits the code"),
-    (r"is not in scope", "a name is not in scope"),
-    (r"that can be named from here", "a name is not in scope"),
     (r"argument\(s\) written", "the proof file no longer fits: another number of arguments"),
     (r"this pattern needs a function", "the proof file no longer fits: another number of arguments"),
 ]
@@ -77,41 +77,41 @@ def log_files(folder):
     return {f"{p.parts[-3]}/{p.parts[-2]}": p for p in folder.glob("*/*/.log")}
 
 
-def errors_of(name, log):
+def errors_of(log):
     """The errors of a log in their order: file within the crate, the compiler's own kind if it is one, declaration, message."""
     found = []
     for line in log.splitlines():
         m = ERROR.match(line)
         if m:
-            found.append((m[1].rpartition(f"/{name}/")[2], m[2], m[3], m[4]))
+            found.append((m[1].removeprefix("./"), m[2], m[3], m[4]))
     return found
 
 
-def causes_of(name, log):
-    """The errors that are no mere consequence: something that a declaration uses was refused before."""
-    return [error for error in errors_of(name, log) if "was not admitted" not in error[3]]
+def causes_of(log):
+    """The errors that are no mere consequence, and tell of more than a name that is gone."""
+    return [error for error in errors_of(log) if not (error[0].startswith("proofs/") and NAMES.search(error[3]))]
 
 
-def place_of(name, log):
+def place_of(log):
     """Where the first error stands, or, where only a function without a proof file is refused, the first note."""
-    causes = causes_of(name, log)
+    causes = causes_of(log)
     if causes:
         return f"{causes[0][0]} {causes[0][2] or '-'}"
     for line in log.splitlines():
         m = NOTE.match(line)
         if m:
             function = NO_PROOF.search(log)
-            return f"{m[1].rpartition(f'/{name}/')[2]} {function[1] if function else '-'} {m[2]}"
+            return f"{m[1].removeprefix('./')} {function[1] if function else '-'} {m[2]}"
     return "none"
 
 
-def value_changed(name, log):
+def value_changed(log):
     """An example of the definitions' values fails, and both values are numbers that were computed to the end."""
     inside, text = False, ""
     for line in log.splitlines():
         m = ERROR.match(line)
         if m or not line.startswith(" "):
-            inside = bool(m) and m[1].endswith(f"/{name}/proofs/Examples.antt")
+            inside = bool(m) and m[1].removeprefix("./") == "proofs/Examples.antt"
         if inside:
             text += " " + line.strip()
     return any((m[1] or m[3]).split() != (m[2] or m[4]).split() for m in CHANGED.finditer(text))
@@ -133,7 +133,7 @@ def faults(name, place, edit, log):
     if not re.search(r"^logic=not-proved", log, re.M):
         return ["the prover did not refuse it"]
     found = []
-    causes = causes_of(name, log)
+    causes = causes_of(log)
     for file, kind, declaration, message in causes:
         where = f"{file} {declaration or '-'}: "
         if kind or not declaration:
@@ -145,11 +145,11 @@ def faults(name, place, edit, log):
         found += [where + reason for sign, reason in UNFIT if re.search(sign, message)]
     if causes:
         _, _, declaration, message = causes[0]
-        if re.match(r"(Inv|μ)-", declaration or "") or (declaration or "").endswith("-spec"):
+        if re.match(r"(invariant|decreases)-", declaration or ""):
             found.append(f"{declaration}: the proof file no longer fits the code")
         elif not FACT.search(message):
             found.append(f"the first error tells of no fact: {message[:120]}")
-    at = place_of(name, log)
+    at = place_of(log)
     if at == "none":
         found.append("no error and no note says what is refused")
     if at != place:
@@ -157,33 +157,37 @@ def faults(name, place, edit, log):
     if re.search(r"^file: proofs/", edit, re.M):
         found.append("it edits a proof")
     proved = name.startswith(STATEMENTS + "/") or of_statement(name, edit)
-    if re.search(r"^file: specs/", edit, re.M) and not proved and not value_changed(name, log):
+    if re.search(r"^file: specs/", edit, re.M) and not proved and not value_changed(log):
         found.append("it edits a definition, and no value of proofs/Examples.antt changed")
     return found[:2]
 
 
-def judge(kind, folder):
+def judge(folder):
+    """Holds list, edits and logs to each other, and prints what is wrong."""
     edits, wrong = listed()
-    edits = {name: place for name, (of, place) in edits.items() if of == kind}
-    files, logs = edit_files(kind), log_files(folder)
+    files, logs = {name: (kind, path) for kind in FOLDERS for name, path in edit_files(kind).items()}, log_files(folder)
     for name in sorted(set(edits) | set(files) | set(logs)):
         lacks = [what for what, has in (("no line in the list", edits), ("no edit file", files), ("no log", logs)) if name not in has]
         if lacks:
             wrong.append(f"{name}: " + ", ".join(lacks))
+        elif edits[name][0] != files[name][0]:
+            wrong.append(f"{name}: it stands in the other folder than the list has")
         else:
-            wrong += [f"{name}: {fault}" for fault in faults(name, edits[name], files[name].read_text(), logs[name].read_text())]
+            wrong += [f"{name}: {fault}" for fault in faults(name, edits[name][1], files[name][1].read_text(), logs[name].read_text())]
     for line in wrong:
         print("judge: " + line)
     if wrong:
-        print(f"judge: {kind}: {len(edits)} edits listed, faults: {len(wrong)}")
+        print(f"judge: {len(edits)} edits listed, faults: {len(wrong)}")
         return 1
-    print(f"judge: {kind}: {len(edits)} edits, each refused for a fact at its place")
+    print(f"judge: {len(edits)} edits, each refused for a fact at its place")
     return 0
 
 
-def places(kind, folder):
+def places(folder):
+    """Prints the lines of the list as the logs have them."""
+    kinds = {name: kind for kind in FOLDERS for name in edit_files(kind)}
     for name, log in sorted(log_files(folder).items()):
-        print(name, kind, place_of(name, log.read_text()))
+        print(name, kinds.get(name, "-"), place_of(log.read_text()))
     return 0
 
 
@@ -191,9 +195,9 @@ def main():
     words = sys.argv[1:]
     work = places if words[:1] == ["places"] else judge
     words = words[1:] if work is places else words
-    if len(words) != 2 or words[0] not in FOLDERS:
+    if len(words) != 1:
         sys.exit(__doc__)
-    sys.exit(work(words[0], Path(words[1])))
+    sys.exit(work(Path(words[0])))
 
 
 if __name__ == "__main__":

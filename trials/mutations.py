@@ -15,7 +15,7 @@ import sys
 import tempfile
 from pathlib import Path
 
-from edits import REFUSED, SURVIVED, UNFIT, tried
+from edits import REFUSED, SURVIVED, UNFIT, edits_of, tried
 
 ROOT = os.path.dirname(os.path.dirname(os.path.abspath(__file__)))
 
@@ -27,19 +27,32 @@ OPERATORS = {
 TOKEN = re.compile(r"<<|>>|<=|==|!=|&&|\|\||\+=|-=|->|=>|::|\.\.|[<+\-*/%]|\b[0-9][0-9_]*(?:x[0-9A-Fa-f_]+)?\b|\b(?:true|false)\b|\w+|\S")
 
 
+def without_clauses(text):
+    """The text with a blank in place of each character of a contract, its line ends aside."""
+    done, at = [], 0
+    for m in re.finditer(r"^ +(?:requires|ensures)\b[^{\n]*\{", text, re.M):
+        depth, end = 1, m.end()
+        while depth:
+            depth += {"{": 1, "}": -1}.get(text[end], 0)
+            end += 1
+        done += [text[at : m.start()], re.sub(r"[^\n]", " ", text[m.start() : end])]
+        at = end
+    return "".join(done) + text[at:]
+
+
 def code_lines(text):
     """The lines of bodies and constants: no comment, no contract, no signature, no import."""
     depth = 0
-    for line in text.split("\n"):
+    for line in without_clauses(text).split("\n"):
         code = line.split("//")[0]
         stripped = code.strip()
         inside = depth > 0
-        depth += code.count("{") - code.count("}") if "⌜" not in line else 0
+        depth += code.count("{") - code.count("}")
         if stripped.startswith("const "):
             yield line
         elif stripped.startswith("pub const "):
             continue
-        elif inside and stripped and "⌜" not in line and not re.match(r"(pub )?\w+: [\w\[\]; ]+,$", stripped):
+        elif inside and stripped and not re.match(r"(pub )?\w+: [\w\[\]; ]+,$", stripped):
             yield line
 
 
@@ -96,7 +109,7 @@ def main():
     count = int(words.pop(0)) if words and words[0].isdigit() else 8
     with tempfile.TemporaryDirectory() as folder:
         made = write_edits(folder, count, words or list(libraries()))
-        verdicts = tried(Path(folder))
+        verdicts = tried(edits_of(Path(folder)))
     refused, survived, unfit = ([name for name, verdict in verdicts.items() if verdict == kind] for kind in (REFUSED, SURVIVED, UNFIT))
     print(f"{len(refused) + len(survived)} changes tried, {len(refused)} refused, {len(survived)} survived; {len(unfit)} were no program")
     for name in survived:
