@@ -19,16 +19,16 @@ unfolding first encode_tests
 returns-then-beyond_limits c = rw (← c.beyond_limits.ensures, c.if-beyond_limits.true)
 
 pub overflow_mul-block : goal.overflow_mul-block
-overflow_mul-block c = omega (arith, (small c.before).block)
+overflow_mul-block c = omega (arith, (small (goal.at.overflow_mul-block c).Else-beyond_limits).block)
 
 pub overflow_mul-matrix : goal.overflow_mul-matrix
-overflow_mul-matrix c = let s = small c.before.before in omega (arith, mul-le-mul s.grid_rows s.grid_columns)
+overflow_mul-matrix c = let s = small (goal.at.overflow_mul-matrix c).Else-beyond_limits in omega (arith, mul-le-mul s.grid_rows s.grid_columns)
 
 pub overflow_mul-matrix-2 : goal.overflow_mul-matrix-2
-overflow_mul-matrix-2 c = let s = small c.before.before in omega (arith, mul-le-mul (mul-le-mul s.grid_rows s.grid_columns) s.block)
+overflow_mul-matrix-2 c = let s = small (goal.at.overflow_mul-matrix-2 c).Else-beyond_limits in omega (arith, mul-le-mul (mul-le-mul s.grid_rows s.grid_columns) s.block)
 
 pub overflow_mul-s : goal.overflow_mul-s
-overflow_mul-s c = let s = small c.before.before.before in omega (arith, mul-le-mul s.mask_count s.block)
+overflow_mul-s c = let s = small (goal.at.overflow_mul-s c).Else-beyond_limits in omega (arith, mul-le-mul s.mask_count s.block)
 
 pub returns-then-xs-matrix : goal.returns-then-xs-matrix
 unfolding first encode_tests matrix_tests matrix_length mask_length block_length

@@ -7,52 +7,47 @@ use native.Mathlib.Omega.{arith}
 use lib.ListN.{length, take, drop}
 use Rattle.algebra.specs.Lists.{tab, grid}
 use Rattle.algebra.proofs.Grids.{rows_none, rows_more, rows_all}
-use Rattle.field.specs.declared.Modulus.{Modulus}
 use Rattle.field.specs.Modulus.{prime}
 use Rattle.sums.specs.Internal.{reduced}
 use Rattle.sums.proofs.Reduced.{reduced_tab}
-use Rattle.share_side.specs.declared.Side.{Side}
 use Rattle.share_side.specs.Sides.{block_length}
 use Rattle.share_side.proofs.Parts.{Part, part_length}
 use Rattle.share_blocks.specs.Internal.{row_sums, encoded_block}
 use Rattle.share_blocks.proofs.Offsets.{block_row}
+use Rattle.share_blocks.proofs.encode_rows.Invariants.{element}
 use Rattle.share_blocks.proofs.encode_rows.Goals as goal
 use Rattle.share_blocks.proofs.encode_rows.Goals.{In-loop-i}
-
--- an element of the block
-abbrev element : Modulus → Side → List ℕ → List ℕ → List ℕ → ℕ → ℕ → ℕ
-element modulus s weights xs masks i j = row_sums (prime modulus) s weights xs masks i j % 2 ^ 64 % prime modulus
 
 pub loop-i-init : goal.loop-i-init
 loop-i-init c =
     record { short = omega arith; wide = c.requires.2; same = refl; is = rows_none _ c.args.out.now c.args.s.block_columns }
 
 -- row i of the output
-out-row : (c : In-loop-i
+out-row : (c : In-loop-i)
     → Part (c.loop-i.i * c.args.s.block_columns) c.args.s.block_columns (length c.loop-i.out)
 out-row c =
     block_row c.args.s c.requires.0.small _ _ c.loop-i-test.true (c.loop-i.invariant.same ∙ c.requires.1)
 
 pub overflow_mul-start : goal.overflow_mul-start
-overflow_mul-start c = (out-row c).start_fits
+overflow_mul-start c = (out-row (goal.at.overflow_mul-start c).In-loop-i).start_fits
 
 pub overflow_add-end : goal.overflow_add-end
-overflow_add-end c = (out-row c).end_fits
+overflow_add-end c = (out-row (goal.at.overflow_add-end c).In-loop-i).end_fits
 
 pub sum_row-requires : goal.sum_row-requires
 sum_row-requires c = (c.requires.0, c.loop-i-test.true)
 
 pub offset_bounds-out-start : goal.offset_bounds-out-start
-offset_bounds-out-start c = (out-row c.before.before.before.before.before).offset_fits
+offset_bounds-out-start c = (out-row (goal.at.offset_bounds-out-start c).In-loop-i).offset_fits
 
 pub slice_bounds-reduce_row-count : goal.slice_bounds-reduce_row-count
-slice_bounds-reduce_row-count c = (out-row c.before.before.before.before.before).ordered
+slice_bounds-reduce_row-count c = (out-row (goal.at.slice_bounds-reduce_row-count c).In-loop-i).ordered
 
 pub slice_bounds-reduce_row-start : goal.slice_bounds-reduce_row-start
-slice_bounds-reduce_row-start c = (out-row c.before.before.before.before.before).ordered
+slice_bounds-reduce_row-start c = (out-row (goal.at.slice_bounds-reduce_row-start c).In-loop-i).ordered
 
 pub slice_bounds-reduce_row-end : goal.slice_bounds-reduce_row-end
-slice_bounds-reduce_row-end c = (out-row c.before.before.before.before.before).within
+slice_bounds-reduce_row-end c = (out-row (goal.at.slice_bounds-reduce_row-end c).In-loop-i).within
 
 pub overflow_add-i : goal.overflow_add-i
 overflow_add-i c = omega arith
@@ -75,7 +70,7 @@ loop-i-preserved c =
       is = rw add-sub_cancel_left (rows_more f a.out.now c.loop-i.out _ columns i c.loop-i.invariant.is
           (c.reduce_row.ensures
           ∙ ap (λ (z : List ℕ). reduced (prime a.modulus) z part) (c.sum_row.ensures ∙ ap (tab g) c.loop-i.invariant.wide)
-          ∙ reduced_tab (prime a.modulus) columns g part (part_length _ _ _ (out-row c.before.before.before.before.before.before.before.before.before).within)));
+          ∙ reduced_tab (prime a.modulus) columns g part (part_length _ _ _ (out-row (goal.at.loop-i-preserved c).In-loop-i).within)));
     }
 
 pub shape_of-sums : goal.shape_of-sums
