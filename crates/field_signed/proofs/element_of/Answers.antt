@@ -1,10 +1,10 @@
 -- `field::element_of` meets its contract: the number, the range, and then the two signs.
 use mathlib.Core.Path.{◌≡◌, sym, ap, ◌∙◌, subst}
-use mathlib.Core.Bool.{true}
-use mathlib.Core.Logic.{⊎_elim}
-use Prim.Native.Nat.{ℕ, ◌-◌, ◌/◌, ◌^◌, ◌<◌}
+use mathlib.Core.Bool.{true, false}
+use Prim.Native.Nat.{ℕ, ◌-◌, ◌/◌, ◌^◌, ◌<◌, ◌≤◌}
 use native.Mathlib.Omega.{arith}
 use lib.IntN.{ℤ, pos, neg_ℤ, nat_abs, ◌+ℤ◌, ◌-ℤ◌}
+use lib.Signed.{lt_z, le_z}
 use mir.Syntax.{w32, w64}
 use mir.Val.{Fits, SFits, to_z, of_z}
 use mir.Facts.{to_z-of_z}
@@ -13,29 +13,26 @@ use Rattle.field_signed.specs.Signed.{half, in_range, element}
 use Rattle.field.proofs.Moduli.{Known, known, none_named}
 use Rattle.field_signed.proofs.Readings.{element_below}
 use Rattle.field_signed.proofs.Outcomes.{element_unknown, element_outside, element_value}
-use Rattle.field_signed.proofs.Words.{word, negative, fitting, too_low, too_high, within, plain, wrapped, narrow}
+use Rattle.field_signed.proofs.Words.{word, negative, negative_fits, fitting, too_low, too_high, within, plain, wrapped, narrow}
 use Rattle.field_signed.proofs.element_of.Goals as goal
-use Rattle.field_signed.proofs.element_of.Goals.{After-prime_of-q, Else-half-value, Else-value-ge0, Start, Then-value-ge0}
+use Rattle.field_signed.proofs.element_of.Goals.{After-prime_of-q, then-value-half-via-then-value-half, then-value-half-via-else-value-half+then-half-value}
 
 pub returns-in_default : goal.returns-in_default
 returns-in_default c =
     let a = c.args in
     sym (element_unknown a.number a.value (none_named a.number (sym c.modulus_named.ensures ∙ c.in_default.is)))
 
-abbrev start : After-prime_of-q → Start
-start c = c.before.before.before.before.before
-
 abbrev z : After-prime_of-q → ℤ
-z c = (start c).args.value
+z c = c.args.value
 
 abbrev q : After-prime_of-q → ℕ
 q c = c.prime_of-q.result
 
-known-q : (c : After-prime_of-q) → Known (start c).args.number (q c)
+known-q : (c : After-prime_of-q) → Known c.args.number (q c)
 known-q c = known _ (sym c.modulus_named.ensures ∙ c.in-Is.is) c.prime_of-q.ensures
 
 pub overflow_sub-top : goal.overflow_sub-top
-overflow_sub-top c = omega (arith, (known-q c).is_prime.above_one)
+overflow_sub-top c = omega (arith, (known-q (goal.at.overflow_sub-top c).After-prime_of-q).is_prime.above_one)
 
 pub overflow_sub-half : goal.overflow_sub-half
 overflow_sub-half c = search fitting
@@ -45,11 +42,11 @@ half-fits c = search fitting
 
 -- the words that the tests compare
 value_is : (c : After-prime_of-q) → to_z w64 (of_z w64 (z c)) ≡ z c
-value_is c = to_z-of_z (start c).ranges.value
+value_is c = to_z-of_z c.ranges.value
 
 least-is : (c : After-prime_of-q) → to_z w64 (of_z w64 (pos 0 -ℤ to_z w64 ((q c - 1) / 2))) ≡ neg_ℤ (pos (half (q c)))
 unfolding half
-least-is c = to_z-of_z (overflow_sub-half c) ∙ negative (half-fits c)
+least-is c = to_z-of_z (negative_fits (half-fits c)) ∙ negative (half-fits c)
 
 most-is : (c : After-prime_of-q) → to_z w64 ((q c - 1) / 2) ≡ pos (half (q c))
 unfolding half
@@ -57,35 +54,56 @@ most-is c = word (half-fits c)
 
 pub returns-then-value-half : goal.returns-then-value-half
 returns-then-value-half c =
-    sym (element_outside (known-q c.before) (z c.before)
-    (⊎_elim (λ w. too_low (q c.before) (value_is c.before) (least-is c.before) (most-is c.before) w.taken) (λ w. too_high (q c.before) (value_is c.before) (least-is c.before) (most-is c.before) w.1.taken) c.if-value-half.branch))
+    let f = (goal.at.returns-then-value-half c).After-prime_of-q in
+    sym (element_outside (known-q f) (z f)
+    (elim c.then-value-half.branch [
+      | then-value-half-via-then-value-half w ↦ too_low (q f) (value_is f) (least-is f) (most-is f) w.if-value-half.true
+      | then-value-half-via-else-value-half+then-half-value w ↦ too_high (q f) (value_is f) (least-is f) (most-is f) w.if-half-value.true
+    ]))
 
-inside : (c : Else-half-value) → in_range (q c.before.before) (z c.before.before) ≡ true
-inside c = within (q c.before.before) (value_is c.before.before) (least-is c.before.before) (most-is c.before.before) c.if-value-half.false c.if-half-value.false
+-- a value that passes both tests
+module _ (f : After-prime_of-q)
+    (above : lt_z (to_z w64 (of_z w64 (z f))) (to_z w64 (of_z w64 (pos 0 -ℤ to_z w64 ((q f - 1) / 2)))) ≡ false)
+    (below : lt_z (to_z w64 ((q f - 1) / 2)) (to_z w64 (of_z w64 (z f))) ≡ false) where
+  inside : in_range (q f) (z f) ≡ true
+  inside = within (q f) (value_is f) (least-is f) (most-is f) above below
 
-small : (c : Else-half-value) → element (q c.before.before) (z c.before.before) < 2 ^ 31
-small c =
-    omega (arith, (known-q c.before.before).small, element_below (q c.before.before) (z c.before.before) (overflow_sub-top c.before.before) (inside c))
+  small : element (q f) (z f) < 2 ^ 31
+  small =
+      let some : 1 ≤ q f = omega (arith, (known-q f).is_prime.above_one) in
+      omega (arith, (known-q f).small, element_below (q f) (z f) some inside)
 
-plain-is : (c : Then-value-ge0) → to_z w64 (of_z w64 (z c.before.before.before)) ≡ pos (element (q c.before.before.before) (z c.before.before.before))
-plain-is c = plain (q c.before.before.before) (value_is c.before.before.before) c.if-value-ge0.true
+  wrapped-is : le_z (pos 0) (to_z w64 (of_z w64 (z f))) ≡ false → to_z w64 (of_z w64 (z f)) +ℤ to_z w64 (q f) ≡ pos (element (q f) (z f))
+  wrapped-is t = wrapped (q f) (value_is f) (word (record { fits = f.prime_of-q.type_inv })) inside t
+
+plain-is : (f : After-prime_of-q) → le_z (pos 0) (to_z w64 (of_z w64 (z f))) ≡ true → to_z w64 (of_z w64 (z f)) ≡ pos (element (q f) (z f))
+plain-is f t = plain (q f) (value_is f) t
 
 pub overflow_cast-result : goal.overflow_cast-result
-overflow_cast-result c = narrow (plain-is c) (small c.before)
+overflow_cast-result c =
+    let f = (goal.at.overflow_cast-result c).After-prime_of-q in
+    narrow (plain-is f c.if-value-ge0.true) (small f c.if-value-half.false c.if-half-value.false)
 
 pub returns-then-value-ge0 : goal.returns-then-value-ge0
 returns-then-value-ge0 c =
-    ap Element.Value (ap nat_abs (plain-is c)) ∙ sym (element_value (known-q c.before.before.before) (z c.before.before.before) (inside c.before))
-
-wrapped-is : (c : Else-value-ge0) → to_z w64 (of_z w64 (z c.before.before.before)) +ℤ to_z w64 (q c.before.before.before) ≡ pos (element (q c.before.before.before) (z c.before.before.before))
-wrapped-is c = wrapped (q c.before.before.before) (value_is c.before.before.before) (word (record { fits = c.prime_of-q.type_inv })) (inside c.before) c.if-value-ge0.false
+    let f = (goal.at.returns-then-value-ge0 c).After-prime_of-q in
+    ap Element.Value (ap nat_abs (plain-is f c.if-value-ge0.true))
+    ∙ sym (element_value (known-q f) (z f) (inside f c.if-value-half.false c.if-half-value.false))
 
 pub overflow_add-result : goal.overflow_add-result
-overflow_add-result c = subst (SFits w64) (sym (wrapped-is c)) (record { sfits = omega (arith, small c.before) })
+overflow_add-result c =
+    let f = (goal.at.overflow_add-result c).After-prime_of-q in
+    subst (SFits w64) (sym (wrapped-is f c.if-value-half.false c.if-half-value.false c.if-value-ge0.false))
+    (record { sfits = omega (arith, small f c.if-value-half.false c.if-half-value.false) })
 
 pub overflow_cast-result-3 : goal.overflow_cast-result-3
-overflow_cast-result-3 c = narrow (to_z-of_z (overflow_add-result c) ∙ wrapped-is c) (small c.before)
+overflow_cast-result-3 c =
+    let f = (goal.at.overflow_cast-result-3 c).After-prime_of-q in
+    narrow (to_z-of_z (overflow_add-result c) ∙ wrapped-is f c.if-value-half.false c.if-half-value.false c.if-value-ge0.false)
+    (small f c.if-value-half.false c.if-half-value.false)
 
 pub returns : goal.returns
 returns c =
-    ap Element.Value (ap nat_abs (to_z-of_z (overflow_add-result c) ∙ wrapped-is c)) ∙ sym (element_value (known-q c.before.before.before) (z c.before.before.before) (inside c.before))
+    let f = (goal.at.returns c).After-prime_of-q in
+    ap Element.Value (ap nat_abs (to_z-of_z (overflow_add-result c) ∙ wrapped-is f c.if-value-half.false c.if-half-value.false c.if-value-ge0.false))
+    ∙ sym (element_value (known-q f) (z f) (inside f c.if-value-half.false c.if-half-value.false))

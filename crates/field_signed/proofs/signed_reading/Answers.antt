@@ -10,37 +10,34 @@ use Rattle.field_signed.proofs.Readings.{signed_low, signed_high}
 use Rattle.field_signed.proofs.Outcomes.{signed_unknown, signed_above, signed_value}
 use Rattle.field_signed.proofs.Words.{word, difference, fitting}
 use Rattle.field_signed.proofs.signed_reading.Goals as goal
-use Rattle.field_signed.proofs.signed_reading.Goals.{After-prime_of-q, Start}
+use Rattle.field_signed.proofs.signed_reading.Goals.{After-prime_of-q}
 
 pub returns-in_default : goal.returns-in_default
 returns-in_default c =
     let a = c.args in
     sym (signed_unknown a.number a.v (none_named a.number (sym c.modulus_named.ensures ∙ c.in_default.is)))
 
-abbrev start : After-prime_of-q → Start
-start c = c.before.before.before.before.before
-
 abbrev v : After-prime_of-q → ℕ
-v c = (start c).args.v
+v c = c.args.v
 
 abbrev q : After-prime_of-q → ℕ
 q c = c.prime_of-q.result
 
-known-q : (c : After-prime_of-q) → Known (start c).args.number (q c)
+known-q : (c : After-prime_of-q) → Known c.args.number (q c)
 known-q c = known _ (sym c.modulus_named.ensures ∙ c.in-Is.is) c.prime_of-q.ensures
 
 pub returns-then-q-v : goal.returns-then-q-v
-returns-then-q-v c = sym (signed_above (known-q c.before) (v c.before) (omega arith))
+returns-then-q-v c = let f = (goal.at.returns-then-q-v c).After-prime_of-q in sym (signed_above (known-q f) (v f) (omega arith))
 
 pub overflow_sub-top : goal.overflow_sub-top
-overflow_sub-top c = omega (arith, (known-q c.before).is_prime.above_one)
+overflow_sub-top c = omega (arith, (known-q (goal.at.overflow_sub-top c).After-prime_of-q).is_prime.above_one)
 
 pub returns-then-v-top : goal.returns-then-v-top
 unfolding half
 returns-then-v-top c =
-    let k = known-q c.before.before in
-    let l : v c.before.before < q c.before.before = omega arith in
-    ap Signed.Value (word (start c.before.before).ranges.v ∙ sym (signed_low (q c.before.before) (v c.before.before) (omega arith))) ∙ sym (signed_value k (v c.before.before) l)
+    let f = (goal.at.returns-then-v-top c).After-prime_of-q in
+    let l : v f < q f = omega arith in
+    ap Signed.Value (word c.ranges.v ∙ sym (signed_low (q f) (v f) (omega arith))) ∙ sym (signed_value (known-q f) (v f) l)
 
 pub overflow_sub-result : goal.overflow_sub-result
 overflow_sub-result c = search fitting
@@ -48,6 +45,6 @@ overflow_sub-result c = search fitting
 pub returns : goal.returns
 unfolding half
 returns c =
-    let k = known-q c.before.before in
+    let f = (goal.at.returns c).After-prime_of-q in
     let l = c.if-q-v.false in
-    ap Signed.Value (to_z-of_z (overflow_sub-result c) ∙ difference (start c.before.before).ranges.v (record { fits = c.prime_of-q.type_inv }) l ∙ sym (signed_high (q c.before.before) (v c.before.before) c.if-v-top.false l)) ∙ sym (signed_value k (v c.before.before) l)
+    ap Signed.Value (to_z-of_z (overflow_sub-result c) ∙ difference c.ranges.v (record { fits = c.prime_of-q.type_inv }) l ∙ sym (signed_high (q f) (v f) c.if-v-top.false l)) ∙ sym (signed_value (known-q f) (v f) l)
