@@ -1,5 +1,4 @@
 -- `test_lister::main` meets its contract.
-use Prim.Native.Nat.{◌-◌}
 use native.Mathlib.Omega.{arith}
 use Rattle.test_lister.proofs.main.Goals as goal
 
