@@ -1,7 +1,7 @@
 -- `decode_table::put_pieces` meets its contract.
 use mathlib.Core.Path.{◌≡◌, refl, ap, ◌∙◌}
 use mathlib.Core.List.{List, ◌++◌}
-use Prim.Native.Nat.{ℕ, ◌+◌, ◌-◌, ◌*◌, ◌%◌, ◌^◌, ◌<◌, ◌≤◌}
+use Prim.Native.Nat.{ℕ, ◌+◌, ◌*◌, ◌%◌, ◌^◌, ◌<◌, ◌≤◌}
 use native.Mathlib.Nat.{add-sub_cancel_left}
 use native.Mathlib.Omega.{arith}
 use lib.ListN.{length, take, drop, length-drop}
@@ -9,95 +9,82 @@ use lib.Seq.{length-take-le}
 use Rattle.algebra.specs.Lists.{tab, grid}
 use Rattle.algebra.proofs.Orders.{row_end}
 use Rattle.algebra.proofs.Grids.{rows_none, rows_more, rows_all}
-use Rattle.field.specs.declared.Modulus.{Modulus}
 use Rattle.field.specs.Modulus.{prime}
 use Rattle.sums.specs.Internal.{reduced}
 use Rattle.sums.proofs.Reduced.{reduced_tab}
-use Rattle.decode_table.specs.declared.Shape.{Shape}
 use Rattle.decode_table.specs.Internal.{piece_count, piece_sum, pieces_of}
 use Rattle.decode_table.proofs.Pieces.{few_pieces}
+use Rattle.decode_table.proofs.put_pieces.Invariants.{element}
 use Rattle.decode_table.proofs.put_pieces.Goals as goal
-use Rattle.decode_table.proofs.put_pieces.Goals.{In-loop-piece, Start}
-
--- an element of the table, by its piece
-abbrev element : Modulus → Shape → List ℕ → List ℕ → List ℕ → ℕ → ℕ → ℕ
-element modulus s indices weights store w v = piece_sum (prime modulus) s indices weights store w v % 2 ^ 64 % prime modulus
-
--- how many rows and pieces there are at most
-few : (e : Start → (e.args.s.grid_rows * e.args.s.block_rows ≤ 16777216) × (piece_count e.args.s ≤ 68719476736)
-few e = few_pieces e.args.s (length e.args.indices.now) e.requires.0.sized
+use Rattle.decode_table.proofs.put_pieces.Goals.{In-loop-piece}
 
 pub overflow_mul-count : goal.overflow_mul-count
-overflow_mul-count c = omega (arith, few c.before.before.before.before.before.before)
+overflow_mul-count c = omega (arith, few_pieces c.args.s (length c.args.indices.now) c.requires.0.sized)
 
 pub overflow_mul-count-2 : goal.overflow_mul-count-2
 unfolding piece_count
-overflow_mul-count-2 c = omega (arith, few c.before.before.before.before.before.before.before)
+overflow_mul-count-2 c = omega (arith, few_pieces c.args.s (length c.args.indices.now) c.requires.0.sized)
 
 pub loop-piece-init : goal.loop-piece-init
 loop-piece-init c =
     record { short = omega arith; wide = c.requires.1; same = refl; is = rows_none _ c.args.table.now c.args.s.block_columns }
 
--- where the call starts
-abbrev start : In-loop-piece → Start
-start c = c.before.before.before.before.before.before.before.before.before
-
 -- there is a next piece
-more : (c : In-loop-piece → c.loop-piece.piece < piece_count (start c).args.s
+more : (c : In-loop-piece) → c.loop-piece.piece < piece_count c.args.s
 unfolding piece_count
 more c = omega arith
 
 -- it lies in the table
-inside : (c : In-loop-piece → c.loop-piece.piece * (start c).args.s.block_columns + (start c).args.s.block_columns ≤ length c.loop-piece.table
+inside : (c : In-loop-piece) → c.loop-piece.piece * c.args.s.block_columns + c.args.s.block_columns ≤ length c.loop-piece.table
 unfolding piece_count
-inside c = omega (arith, row_end (start c).args.s.block_columns (more c), (start c).requires.2)
+inside c = omega (arith, row_end c.args.s.block_columns (more c), c.requires.2)
 
 pub overflow_mul-start : goal.overflow_mul-start
-overflow_mul-start c = let i = inside c in omega arith
+overflow_mul-start c = let i = inside (goal.at.overflow_mul-start c).In-loop-piece in omega arith
 
 pub overflow_add-end : goal.overflow_add-end
-overflow_add-end c = let i = inside c in omega arith
+overflow_add-end c = let i = inside (goal.at.overflow_add-end c).In-loop-piece in omega arith
 
 pub piece_sums-requires : goal.piece_sums-requires
-piece_sums-requires c = ((start c.before).pre.0, more c.before)
+piece_sums-requires c = (c.requires.0, more (goal.at.piece_sums-requires c).In-loop-piece)
 
 pub offset_bounds-table-start : goal.offset_bounds-table-start
-offset_bounds-table-start c = let i = inside c.before.before.before.before.before in omega arith
+offset_bounds-table-start c = let i = inside (goal.at.offset_bounds-table-start c).In-loop-piece in omega arith
 
 pub slice_bounds-reduce_row-count : goal.slice_bounds-reduce_row-count
-slice_bounds-reduce_row-count c = let i = inside c.before.before.before.before.before in omega arith
+slice_bounds-reduce_row-count c = let i = inside (goal.at.slice_bounds-reduce_row-count c).In-loop-piece in omega arith
 
 pub slice_bounds-reduce_row-start : goal.slice_bounds-reduce_row-start
-slice_bounds-reduce_row-start c = let i = inside c.before.before.before.before.before in omega arith
+slice_bounds-reduce_row-start c = let i = inside (goal.at.slice_bounds-reduce_row-start c).In-loop-piece in omega arith
 
 pub slice_bounds-reduce_row-end : goal.slice_bounds-reduce_row-end
-slice_bounds-reduce_row-end c = let i = inside c.before.before.before.before.before in omega arith
+slice_bounds-reduce_row-end c = let i = inside (goal.at.slice_bounds-reduce_row-end c).In-loop-piece in omega arith
 
 -- the part of the table that is lent is as long as the piece
-piece-length : (c : In-loop-piece
-    → length (take (start c).args.s.block_columns (drop (c.loop-piece.piece * (start c).args.s.block_columns) c.loop-piece.table)) ≡ (start c).args.s.block_columns
+piece-length : (c : In-loop-piece)
+    → length (take c.args.s.block_columns (drop (c.loop-piece.piece * c.args.s.block_columns) c.loop-piece.table)) ≡ c.args.s.block_columns
 piece-length c =
     let l = c.loop-piece in
-    let columns = (start c).args.s.block_columns in
+    let columns = c.args.s.block_columns in
     length-take-le columns (drop (l.piece * columns) l.table) (omega (arith, inside c, length-drop (l.piece * columns) l.table))
 
 pub overflow_add-piece : goal.overflow_add-piece
 unfolding piece_count
-overflow_add-piece c = omega (arith, few (start c.before.before.before.before.before.before.before.before.before))
+overflow_add-piece c = omega (arith, few_pieces c.args.s (length c.args.indices.now) c.requires.0.sized)
 
 pub loop-piece-smaller : goal.loop-piece-smaller
 loop-piece-smaller c = omega arith
 
 pub loop-piece-preserved : goal.loop-piece-preserved
 loop-piece-preserved c =
-    let a = (start c.before.before.before.before.before.before.before.before.before).args in
+    let a = c.args in
     let loop = c.loop-piece in
     let q = prime a.modulus in
     let columns = a.s.block_columns in
     let f : ℕ → ℕ = λ v. piece_sum q a.s a.indices.now a.weights.now a.store.now loop.piece v % 2 ^ 64 in
     let out = take columns (drop (loop.piece * columns) loop.table) in
     let made = rw add-sub_cancel_left at c.reduce_row.ensures in
-    let is = made ∙ ap (λ (xs : List ℕ). reduced q xs out) (c.piece_sums.ensures ∙ ap (tab f) loop.invariant.wide) ∙ reduced_tab q columns f out (piece-length c.before.before.before.before.before.before.before.before.before) in
+    let is = made ∙ ap (λ (xs : List ℕ). reduced q xs out) (c.piece_sums.ensures ∙ ap (tab f) loop.invariant.wide) ∙ reduced_tab q columns f out (piece-length (goal.at.loop-piece-preserved c).In-loop-piece) in
     record {
       short = omega arith;
       wide = omega arith;
