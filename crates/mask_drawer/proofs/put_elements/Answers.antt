@@ -1,6 +1,5 @@
 -- `mask_drawer::put_elements` meets its contract.
 use mathlib.Core.Path.{refl}
-use Prim.Native.Nat.{◌-◌}
 use native.Mathlib.Omega.{arith}
 use Rattle.mask_drawer.proofs.put_elements.Goals as goal
 
