@@ -20,7 +20,7 @@ small : (c : After-side_of-s) → Small c.side_of-s.result
 small c = rw c.side_of-s.ensures c.requires
 
 pub side_weights-requires : goal.side_weights-requires
-side_weights-requires c = let own = small c.before.before in (own, few_weights _ own)
+side_weights-requires c = let own = small (goal.at.side_weights-requires c).After-side_of-s in (own, few_weights _ own)
 
 -- the weights' array is made of zeros
 zeros-below : (q : ℕ) → 0 < q → AllBelow q (replicate 80 0)
@@ -31,10 +31,12 @@ returns c =
     let a = c.args in
     let q = prime a.plan.modulus in
     let s = c.side_of-s.result in
+    let own : Small s = rw c.side_of-s.ensures c.requires in
     let pos : 0 < q = omega (arith, (prime_prime a.plan.modulus).above_one) in
     let below = weights_below q c.strides_of-strides.result s a.x _ pos (below_drop q (replicate 80 0) (zeros-below q pos) (weight_count s)) in
-    rw (← c.side_of-s.ensures) (
-      c.encode.ensures.number ∙ only_matrix s q _ _ _ (small c.before.before.before.before.before.before.before.before.before),
-      c.encode.ensures.block
-          ∙ share_made a.plan.modulus c.strides_of-strides.ensures s (small c.before.before.before.before.before.before.before.before.before) a.x _ _ _ _ a.out.now c.side_weights.ensures (rw c.side_weights.ensures below),
-    )
+    record {
+      number = rw (← c.side_of-s.ensures) (c.encode.ensures.number ∙ only_matrix s q _ _ _ own);
+      block = rw (← c.side_of-s.ensures)
+          (c.encode.ensures.block
+          ∙ share_made a.plan.modulus c.strides_of-strides.ensures s own a.x _ _ _ _ a.out.now c.side_weights.ensures (rw c.side_weights.ensures below));
+    }
