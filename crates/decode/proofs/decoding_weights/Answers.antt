@@ -1,7 +1,7 @@
 -- `decode::decoding_weights` meets its contract.
 use mathlib.Core.Path.{◌≡◌, refl, sym, ap, ◌∙◌}
 use mathlib.Core.List.{List, ◌++◌}
-use Prim.Native.Nat.{ℕ, ◌+◌, ◌-◌, ◌*◌, ◌≤◌}
+use Prim.Native.Nat.{ℕ, ◌+◌, ◌*◌, ◌<◌, ◌≤◌}
 use native.Mathlib.Nat.{add-sub_cancel_left}
 use native.Mathlib.Omega.{arith}
 use lib.ListN.{length, get_or, take, drop, replicate, length-drop, length-append}
@@ -16,7 +16,6 @@ use Rattle.decode_basis.specs.Internal.{coefficients, root_product}
 use Rattle.decode_table.specs.Internal.{block_count}
 use Rattle.decode.specs.Internal.{shape, host_weight, decoding_weights}
 use Rattle.decode.proofs.decoding_weights.Goals as goal
-use Rattle.decode.proofs.decoding_weights.Goals.{After-from_roots, In-loop-c, Start}
 
 -- the weight of the chosen host number c in block b
 abbrev value : Plan → List ℕ → ℕ → ℕ → ℕ
@@ -43,28 +42,14 @@ slice_bounds-roots-end c = let room = c.requires.0 in omega arith
 pub slice_bounds-from_roots-end : goal.slice_bounds-from_roots-end
 slice_bounds-from_roots-end c = let room = c.requires.0 in sym (length-take-le _ _ (omega arith))
 
-module _ (f : After-from_roots where
-  -- where the call starts, and its points
-  abbrev begun : Start
-  begun = f.before.before.before.before.before.before.before.before
-
-  abbrev points : List ℕ
-  points = begun.args.points.now
-
-  -- how many blocks the table has
-  abbrev blocks : ℕ
-  blocks = begun.args.plan.parameters.m * begun.args.plan.parameters.n
-
-  -- the array then has the roots, and zeros past them
-  abbrev made : List ℕ
-  made = f.from_roots.last.1.1.0
-
-  roots-are : made ≡ coefficients (prime begun.args.plan.modulus) (root_product (prime begun.args.plan.modulus) points) (length points + 1)
+-- the array of the roots, and zeros past them
+module _ (q : ℕ) (points made : List ℕ) (few : length points ≤ 64)
+    (is : made ≡ coefficients q (root_product q points) (length (take (length points + 1) (replicate {A = ℕ} 65 0)))) where
+  roots-are : made ≡ coefficients q (root_product q points) (length points + 1)
   roots-are =
-      let q = prime begun.args.plan.modulus in
       let room : length (take (length points + 1) (replicate {A = ℕ} 65 0)) ≡ length points + 1
-      = length-take-le (length points + 1) (replicate 65 0) (omega (arith, begun.pre.0.few)) in
-      f.from_roots.ensures ∙ ap (coefficients q (root_product q points)) room
+      = length-take-le (length points + 1) (replicate 65 0) (omega arith) in
+      is ∙ ap (coefficients q (root_product q points)) room
 
   roots-length : length made ≡ length points + 1
   unfolding coefficients
@@ -73,33 +58,26 @@ module _ (f : After-from_roots where
   front_is : take (length points + 1) (made ++ drop (length points + 1) (replicate 65 0)) ≡ made
   front_is = take_at made (drop (length points + 1) (replicate 65 0)) (length points + 1) roots-length
 
+-- the next host's weights lie among the weights
+module _ (hosts c blocks : ℕ) (weights : List ℕ) (below : c < hosts) (long : length weights ≡ hosts * blocks) where
+  inside : c * blocks + blocks ≤ length weights
+  inside = omega (arith, row_end blocks below)
+
+  -- the part of the weights that is lent has one for each block
+  weights-length : length (take blocks (drop (c * blocks) weights)) ≡ blocks
+  weights-length = length-take-le blocks (drop (c * blocks) weights) (omega (arith, inside, length-drop (c * blocks) weights))
 
 pub loop-c-init : goal.loop-c-init
 loop-c-init c =
-    record { is = rows_none _ (begun c.before).args.weights.now (blocks c.before); short = omega arith; same = refl }
-
-module _ (c : In-loop-c where
-  abbrev roots : After-from_roots
-  roots = c.before.before.before
-
-  -- the next host's weights lie among the weights
-  inside : c.loop-c.c * blocks roots + blocks roots ≤ length c.loop-c.weights
-  unfolding block_count shape
-  inside = omega (arith, row_end (blocks roots) c.loop-c-test.true, (begun roots).pre.1)
-
-  -- the part of the weights that is lent has one for each block
-  weights-length : length (take (blocks roots) (drop (c.loop-c.c * blocks roots) c.loop-c.weights)) ≡ blocks roots
-  weights-length =
-      let l = c.loop-c in
-      let rest = drop (l.c * blocks roots) l.weights in
-      length-take-le (blocks roots) rest (omega (arith, inside, length-drop (l.c * blocks roots) l.weights))
-
+    record { is = rows_none _ c.args.weights.now (c.args.plan.parameters.m * c.args.plan.parameters.n); short = omega arith; same = refl }
 
 pub overflow_mul-start : goal.overflow_mul-start
-overflow_mul-start c = let i = inside c in omega arith
+unfolding block_count shape
+overflow_mul-start c = let i = inside (length c.args.points.now) c.loop-c.c (c.args.plan.parameters.m * c.args.plan.parameters.n) c.loop-c.weights c.loop-c-test.true (c.loop-c.invariant.same ∙ c.requires.1) in omega arith
 
 pub overflow_add-end : goal.overflow_add-end
-overflow_add-end c = let i = inside c in omega arith
+unfolding block_count shape
+overflow_add-end c = let i = inside (length c.args.points.now) c.loop-c.c (c.args.plan.parameters.m * c.args.plan.parameters.n) c.loop-c.weights c.loop-c-test.true (c.loop-c.invariant.same ∙ c.requires.1) in omega arith
 
 pub offset_bounds-points-c : goal.offset_bounds-points-c
 offset_bounds-points-c c = omega arith
@@ -109,29 +87,32 @@ bounds-points-c c = omega arith
 
 pub slice_bounds-roots-end-in-loop-c : goal.slice_bounds-roots-end-in-loop-c
 slice_bounds-roots-end-in-loop-c c =
-    let f = roots c.before in
-    omega (arith, roots-length f, length-append (made f) (drop (length (points f) + 1) (replicate 65 0)))
+    let n = length c.args.points.now + 1 in
+    omega (arith, roots-length (prime c.args.plan.modulus) c.args.points.now c.from_roots.new.out c.requires.0.few c.from_roots.ensures, length-append c.from_roots.new.out (drop n (replicate 65 0)))
 
 pub slice_bounds-host_weights-end : goal.slice_bounds-host_weights-end
-slice_bounds-host_weights-end c = let f = roots c.before.before in sym (ap length (front_is f) ∙ roots-length f)
+slice_bounds-host_weights-end c = sym (ap length (front_is (prime c.args.plan.modulus) c.args.points.now c.from_roots.new.out c.requires.0.few c.from_roots.ensures) ∙ roots-length (prime c.args.plan.modulus) c.args.points.now c.from_roots.new.out c.requires.0.few c.from_roots.ensures)
 
 pub offset_bounds-weights-start : goal.offset_bounds-weights-start
-offset_bounds-weights-start c = let i = inside c.before.before in omega arith
+unfolding block_count shape
+offset_bounds-weights-start c = let i = inside (length c.args.points.now) c.loop-c.c (c.args.plan.parameters.m * c.args.plan.parameters.n) c.loop-c.weights c.loop-c-test.true (c.loop-c.invariant.same ∙ c.requires.1) in omega arith
 
 pub slice_bounds-host_weights-count : goal.slice_bounds-host_weights-count
-slice_bounds-host_weights-count c = let i = inside c.before.before in omega arith
+unfolding block_count shape
+slice_bounds-host_weights-count c = let i = inside (length c.args.points.now) c.loop-c.c (c.args.plan.parameters.m * c.args.plan.parameters.n) c.loop-c.weights c.loop-c-test.true (c.loop-c.invariant.same ∙ c.requires.1) in omega arith
 
 pub slice_bounds-host_weights-start : goal.slice_bounds-host_weights-start
-slice_bounds-host_weights-start c = let i = inside c.before.before in omega arith
+unfolding block_count shape
+slice_bounds-host_weights-start c = let i = inside (length c.args.points.now) c.loop-c.c (c.args.plan.parameters.m * c.args.plan.parameters.n) c.loop-c.weights c.loop-c-test.true (c.loop-c.invariant.same ∙ c.requires.1) in omega arith
 
 pub slice_bounds-host_weights-end-in-loop-c : goal.slice_bounds-host_weights-end-in-loop-c
-slice_bounds-host_weights-end-in-loop-c c = let i = inside c.before.before in omega arith
+unfolding block_count shape
+slice_bounds-host_weights-end-in-loop-c c = let i = inside (length c.args.points.now) c.loop-c.c (c.args.plan.parameters.m * c.args.plan.parameters.n) c.loop-c.weights c.loop-c-test.true (c.loop-c.invariant.same ∙ c.requires.1) in omega arith
 
 pub host_weights-requires : goal.host_weights-requires
 unfolding block_count shape
 host_weights-requires c =
-    let strides = (roots c.before.before.before).before.before.before.before in
-    ((begun (roots c.before.before.before)).pre.0, rw add-sub_cancel_left (weights-length c.before.before.before), strides.strides-of.ensures)
+    (c.requires.0, rw add-sub_cancel_left (weights-length (length c.args.points.now) c.loop-c.c (c.args.plan.parameters.m * c.args.plan.parameters.n) c.loop-c.weights c.loop-c-test.true (c.loop-c.invariant.same ∙ c.requires.1)), c.strides_of-strides.ensures)
 
 pub overflow_add-c : goal.overflow_add-c
 overflow_add-c c = omega arith
@@ -142,14 +123,15 @@ loop-c-smaller c = omega arith
 pub loop-c-preserved : goal.loop-c-preserved
 unfolding block_count shape
 loop-c-preserved c =
-    let f = roots c.before.before.before.before.before.before in
-    let a = (begun f).args in
+    let a = c.args in
+    let points = a.points.now in
+    let blocks = a.plan.parameters.m * a.plan.parameters.n in
     let k = c.loop-c.c in
-    let row : _ ≡ tab (value a.plan (points f) k) (blocks f)
+    let row : _ ≡ tab (value a.plan points k) blocks
     = c.host_weights.ensures
-    ∙ ap (λ (rs : List ℕ). tab (host_weight a.plan (get_or (points f) k 0) (points f) rs) (blocks f)) (front_is f ∙ roots-are f) in
+    ∙ ap (λ (rs : List ℕ). tab (host_weight a.plan (get_or points k 0) points rs) blocks) (front_is (prime c.args.plan.modulus) c.args.points.now c.from_roots.new.out c.requires.0.few c.from_roots.ensures ∙ roots-are (prime c.args.plan.modulus) c.args.points.now c.from_roots.new.out c.requires.0.few c.from_roots.ensures) in
     record {
-      is = rw add-sub_cancel_left (rows_more (value a.plan (points f)) a.weights.now c.loop-c.weights _ (blocks f) k c.loop-c.invariant.is row);
+      is = rw add-sub_cancel_left (rows_more (value a.plan points) a.weights.now c.loop-c.weights _ blocks k c.loop-c.invariant.is row);
       short = omega arith;
       same = omega arith;
     }
@@ -160,7 +142,9 @@ shape_of-weights c = c.loop-c.invariant.same
 pub returns : goal.returns
 unfolding decoding_weights block_count shape
 returns c =
-    let a = (begun c.before.before.before).args in
-    let all : c.loop-c.c ≡ length (points c.before.before.before) = omega arith in
-    rows_all (value a.plan (points c.before.before.before)) a.weights.now c.loop-c.weights (length (points c.before.before.before)) (blocks c.before.before.before) (begun c.before.before.before).requires.1
-    (c.loop-c.invariant.is ∙ ap (λ (k : ℕ). grid (value a.plan (points c.before.before.before)) k (blocks c.before.before.before) ++ drop (k * blocks c.before.before.before) a.weights.now) all)
+    let a = c.args in
+    let points = a.points.now in
+    let blocks = a.plan.parameters.m * a.plan.parameters.n in
+    let all : c.loop-c.c ≡ length points = omega arith in
+    rows_all (value a.plan points) a.weights.now c.loop-c.weights (length points) blocks c.requires.1
+    (c.loop-c.invariant.is ∙ ap (λ (k : ℕ). grid (value a.plan points) k blocks ++ drop (k * blocks) a.weights.now) all)
