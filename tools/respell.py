@@ -68,7 +68,7 @@ def renamed(names):
         for token in set(TOKEN.findall(file.read_text())):
             used[token].add(file)
     for new, olds in back.items():
-        first, *others = sorted(olds, key=lambda old: (all("proofs" in str(f) for f in names[old]), "-" in old))
+        first, *others = sorted(olds, key=lambda old: (all("proofs" in str(f) for f in names[old]), "-" in old, old == old.lower()))
         for old in others:
             if used[old] & used[first]:
                 table[old] = OTHERS.get(old, new + "_lem")

@@ -23,7 +23,7 @@ GROUP = re.compile(r"^file: (.*)\nold: (.*)\n", re.M)
 
 ERROR = re.compile(r"^(\S+?):\d+:\d+: error(\[[\w-]+\])?: (?:`([^`]+)`: )?(.*)")
 NOTE = re.compile(r"^note: (\S+?):\d+:\d+: .*\(`([^`]+)`\)")
-NO_PROOF = re.compile(r"^fn \w+::(\S+): no proof", re.M)
+NO_PROOF = re.compile(r"^fn \w+::(\S+): no proof(?!: it calls)", re.M)
 
 # What the prover says where a proof file names what the edit took away, or cites such a proof: that alone says nothing of a contract,
 # and where it stands beside a fact that no longer holds it says nothing against it.
@@ -143,6 +143,8 @@ def faults(name, place, edit, log):
         elif file.startswith("src/"):
             found.append(where + "the contract itself is refused")
         found += [where + reason for sign, reason in UNFIT if re.search(sign, message)]
+    if not causes and errors_of(log):
+        found.append("the proof file names what the edit took away, and nothing else is told: change a value and keep the names")
     if causes:
         _, _, declaration, message = causes[0]
         if re.match(r"(invariant|decreases)-", declaration or ""):

@@ -9,8 +9,8 @@
 --   told_values              the same of a list of values
 --   or_was                    the values that an outcome tells, or what was there where it tells none
 --   arrived_number           the number of an arrival
---   set_all_lem                   values written over a list, one after another
---   set_all                  the list is then the values, where it is as long as they are
+--   set_all                   values written over a list, one after another
+--   set_all_lem                  the list is then the values, where it is as long as they are
 use mathlib.Core.Path.{◌≡◌, refl, sym, ap, ◌∙◌}
 use mathlib.Core.Bool.{Bool, true, false, not, ◌||◌}
 use mathlib.Core.List.{List, [], ◌∷◌}
@@ -92,16 +92,16 @@ unfolding arrived entered
 arrived_number job points heard store message minute =
     number_by heard message (first (arrival_tests job points heard store message minute)) (is_heard heard (host_index (header_of message)))
 
-abbrev set_all_lem : List ℕ → List ℕ → ℕ → List ℕ
-set_all_lem [] xs i = xs
-set_all_lem (v ∷ vs) xs i = set_all_lem vs (set xs i v) (suc i)
+abbrev set_all : List ℕ → List ℕ → ℕ → List ℕ
+set_all [] xs i = xs
+set_all (v ∷ vs) xs i = set_all vs (set xs i v) (suc i)
 
-set_past : (vs : List ℕ) (x : ℕ) (xs : List ℕ) (i : ℕ) → set_all_lem vs (x ∷ xs) (suc i) ≡ x ∷ set_all_lem vs xs i
+set_past : (vs : List ℕ) (x : ℕ) (xs : List ℕ) (i : ℕ) → set_all vs (x ∷ xs) (suc i) ≡ x ∷ set_all vs xs i
 set_past [] x xs i = refl
 set_past (v ∷ vs) x xs i = set_past vs x (set xs i v) (suc i)
 
-pub set_all : (vs xs : List ℕ) → length xs ≡ length vs → set_all_lem vs xs 0 ≡ vs
-set_all [] [] e = refl
-set_all [] (x ∷ xs) e = absurd (suc-ne-zero (length xs) e)
-set_all (v ∷ vs) [] e = absurd (suc-ne-zero (length vs) (sym e))
-set_all (v ∷ vs) (x ∷ xs) e = set_past vs v xs 0 ∙ ap (λ (l : List ℕ). v ∷ l) (set_all vs xs (suc_inj e))
+pub set_all_lem : (vs xs : List ℕ) → length xs ≡ length vs → set_all vs xs 0 ≡ vs
+set_all_lem [] [] e = refl
+set_all_lem [] (x ∷ xs) e = absurd (suc-ne-zero (length xs) e)
+set_all_lem (v ∷ vs) [] e = absurd (suc-ne-zero (length vs) (sym e))
+set_all_lem (v ∷ vs) (x ∷ xs) e = set_past vs v xs 0 ∙ ap (λ (l : List ℕ). v ∷ l) (set_all_lem vs xs (suc_inj e))

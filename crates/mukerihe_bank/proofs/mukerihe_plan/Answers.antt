@@ -12,7 +12,7 @@ use Rattle.plan.specs.declared.Planned.{Planned}
 use Rattle.plan.specs.Planning.{plan_tests, planned, told, plan_values}
 use Rattle.plan.proofs.Outcomes.{plan_told}
 use Rattle.mukerihe_bank.specs.Bank.{job_of, counted}
-use Rattle.mukerihe_bank.proofs.Outcomes.{unmoved, well_counted, miscounted_either, or_was, told_values, set_all}
+use Rattle.mukerihe_bank.proofs.Outcomes.{unmoved, well_counted, miscounted_either, or_was, told_values, set_all_lem}
 use Rattle.mukerihe_bank.proofs.mukerihe_plan.Goals as goal
 use Rattle.mukerihe_bank.proofs.mukerihe_plan.Goals.{After-number_of, After-plan_job-planned, Else-job-values}
 
@@ -79,4 +79,4 @@ returns-in-Refused c = let all = outcome-is c.before.before.before _ c.in-Refuse
 
 pub returns-in-Accepted : goal.returns-in-Accepted
 returns-in-Accepted c =
-    let o = outcome-is c.before.before.before.before _ c.in-Accepted.is in record { number = o.0; values = set_all (values c c.number_of_lem.result) (was c) (five c) ∙ ap (values c) c.number_of_lem.ensures ∙ o.1 }
+    let o = outcome-is c.before.before.before.before _ c.in-Accepted.is in record { number = o.0; values = set_all_lem (values c c.number_of_lem.result) (was c) (five c) ∙ ap (values c) c.number_of_lem.ensures ∙ o.1 }

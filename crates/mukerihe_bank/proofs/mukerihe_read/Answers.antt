@@ -11,7 +11,7 @@ use Rattle.message.specs.declared.Parsed.{Parsed}
 use Rattle.message.specs.Format.{read_tests, read_into, told}
 use Rattle.message.proofs.Outcomes.{read_told}
 use Rattle.mukerihe_bank.specs.Bank.{counted, if_counted}
-use Rattle.mukerihe_bank.proofs.Outcomes.{unmoved, miscounted, kept, well_counted, made, or_was, told_values, set_all}
+use Rattle.mukerihe_bank.proofs.Outcomes.{unmoved, miscounted, kept, well_counted, made, or_was, told_values, set_all_lem}
 use Rattle.mukerihe_bank.proofs.mukerihe_read.Goals as goal
 use Rattle.mukerihe_bank.proofs.mukerihe_read.Goals.{After-read_message-parsed, In-Fields}
 
@@ -73,4 +73,4 @@ returns-in-Refused c =
 pub returns-in-Fields : goal.returns-in-Fields
 unfolding fields
 returns-in-Fields c =
-    let o = outcome-is c.before.before.before.before.before _ c.in-Fields.is in record { number = o.0; elements = elements-is c.before.before.before.before.before; fields = set_all (values c) (was c) (six c) ∙ o.1 }
+    let o = outcome-is c.before.before.before.before.before _ c.in-Fields.is in record { number = o.0; elements = elements-is c.before.before.before.before.before; fields = set_all_lem (values c) (was c) (six c) ∙ o.1 }
