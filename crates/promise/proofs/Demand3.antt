@@ -6,7 +6,7 @@ use mathlib.Core.Path.{refl, sym, subst}
 use mathlib.Core.List.{◌∷◌, ◌++◌}
 use Rattle.promise.specs.Demand3.{Demand3, decoding}
 use Rattle.promise.specs.WholeNumbers.{WholeNumbers, DecodedNumbers}
-use Rattle.promise.proofs.Hidden.{hidden}
+use Rattle.promise.proofs.Privacy.{hidden}
 use Rattle.promise.proofs.Made.{made}
 use Rattle.promise.proofs.Yet.{true_fit, yet}
 use Rattle.promise.proofs.WholeNumbers.{whole_numbers}

@@ -7,7 +7,7 @@ pub mod ExactSums
 pub mod ExactPlaces
 pub mod ExactAnswers
 pub mod Layouts
-pub mod Hidden
+pub mod Privacy
 pub mod Exact
 pub mod Demand2
 pub mod Fits
