@@ -13,7 +13,7 @@ returns-then-job-ne-JOB_WORDS c = let all = turned_down 13 c.args.job.now c.if-j
 pub returns : goal.returns
 returns c =
     let told = c.decode.ensures in
-    let is = c.Job-of.ensures in
+    let is = c.job_of.ensures in
     let a = c.args in let all = passed_on 13 a.job.now c.if-job-ne-JOB_WORDS.false _ _ _
-    (told.0 ∙ ap (λ (x : Job). first (decode_tests x a.points.now a.heard a.store.now (length a.table.now))) is)
-    (told.1 ∙ ap (λ (x : Job). table_after x a.points.now a.heard a.store.now a.table.now) is) in record { number = all.0; table = all.1 }
+    (told.number ∙ ap (λ (x : Job). first (decode_tests x a.points.now a.heard a.store.now (length a.table.now))) is)
+    (told.table ∙ ap (λ (x : Job). table_after x a.points.now a.heard a.store.now a.table.now) is) in record { number = all.0; table = all.1 }

@@ -22,8 +22,8 @@ outcome-is p r is =
 
 pub returns-in-Refused : goal.returns-in-Refused
 returns-in-Refused c =
-    let o = outcome-is c.before.before.before.before.before _ c.in-Refused.is in record { number = o.0; masks = c.draw_masks-drawn.ensures.masks; used = o.1 }
+    let o = outcome-is (goal.at.returns-in-Refused c).After-draw_masks-drawn _ c.in-Refused.is in record { number = o.0; masks = c.draw_masks-drawn.ensures.masks; used = o.1 }
 
 pub returns-in-Used : goal.returns-in-Used
 returns-in-Used c =
-    let o = outcome-is c.before.before.before.before.before _ c.in-Used.is in record { number = o.0; masks = c.draw_masks-drawn.ensures.masks; used = o.1 }
+    let o = outcome-is (goal.at.returns-in-Used c).After-draw_masks-drawn _ c.in-Used.is in record { number = o.0; masks = c.draw_masks-drawn.ensures.masks; used = o.1 }

@@ -22,8 +22,8 @@ outcome-is p r is =
 
 pub returns-in-Refused : goal.returns-in-Refused
 unfolding element_told
-returns-in-Refused c = let all = outcome-is c.before.before.before _ c.in-Refused.is in record { number = all.0; element = all.1 }
+returns-in-Refused c = let all = outcome-is (goal.at.returns-in-Refused c).After-element_of-back _ c.in-Refused.is in record { number = all.0; element = all.1 }
 
 pub returns-in-Value : goal.returns-in-Value
 unfolding element_told
-returns-in-Value c = let all = outcome-is c.before.before.before _ c.in-Value.is in record { number = all.0; element = all.1 }
+returns-in-Value c = let all = outcome-is (goal.at.returns-in-Value c).After-element_of-back _ c.in-Value.is in record { number = all.0; element = all.1 }

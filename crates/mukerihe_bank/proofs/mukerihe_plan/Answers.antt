@@ -1,6 +1,7 @@
 -- `mukerihe_bank::mukerihe_plan` meets its contract.
 use mathlib.Core.Path.{◌≡◌, sym, ap, ◌∙◌}
-use mathlib.Core.List.{List, ◌∷◌}
+use mathlib.Core.Bool.{false, ◌||◌}
+use mathlib.Core.List.{List, [], ◌∷◌}
 use Prim.Native.Nat.{ℕ}
 use lib.Dec.{lit<}
 use lib.ListN.{length}
@@ -14,7 +15,7 @@ use Rattle.plan.proofs.Outcomes.{plan_told}
 use Rattle.mukerihe_bank.specs.Bank.{job_of, counted}
 use Rattle.mukerihe_bank.proofs.Outcomes.{unmoved, well_counted, miscounted_either, or_was, told_values, set_all_lem}
 use Rattle.mukerihe_bank.proofs.mukerihe_plan.Goals as goal
-use Rattle.mukerihe_bank.proofs.mukerihe_plan.Goals.{After-number_of, After-plan_job-planned, Else-job-values}
+use Rattle.mukerihe_bank.proofs.mukerihe_plan.Goals.{After-number_of, After-plan_job-planned}
 
 pub returns-then-job-values : goal.returns-then-job-values
 returns-then-job-values c =
@@ -22,22 +23,21 @@ returns-then-job-values c =
     let told = miscounted_either 13 a.job.now 5 a.values.now _ c.if-job-values.true in record { number = sym told; values = unmoved _ _ _ told }
 
 -- the words and the values are so many
-counts : (p : Else-job-values) → let a = p.args in (length a.job.now ≡ 13) × (length a.values.now ≡ 5)
-counts p =
-    let a = p.args in
-    let job = differs (length a.job.now) 13 in
-    let values = differs (length a.values.now) 5 in
-    (equal _ _ (or_left job values p.if-job-values.false), equal _ _ (or_right job values p.if-job-values.false))
+counts : (words values : List ℕ) → (differs (length words) 13 || differs (length values) 5) ≡ false → (length words ≡ 13) × (length values ≡ 5)
+counts words values e =
+    let job = differs (length words) 13 in
+    let room = differs (length values) 5 in
+    (equal _ _ (or_left job room e), equal _ _ (or_right job room e))
 
 pub job_of-requires : goal.job_of-requires
-job_of-requires c = (counts c).0
+job_of-requires c = (counts c.args.job.now c.args.values.now c.if-job-values.false).0
 
 -- the values as they were, which are five, and those that are written over them
 abbrev was : After-number_of → List ℕ
 was c = c.args.values.now
 
 five : (c : After-number_of) → length (was c) ≡ 5
-five c = (counts c.before.before.before.before.before.before).1
+five c = (counts c.args.job.now (was c) c.if-job-values.false).1
 
 abbrev values : (c : After-number_of) → ℕ → List ℕ
 values c number =
@@ -69,14 +69,14 @@ unfolding plan_values
 outcome-is p r e =
     let a = p.args in
     let job = job_of a.job.now in
-    let is = sym e ∙ p.plan_job-planned.ensures ∙ ap (λ (job : Job). planned job a.points.now) p.Job-of.ensures in
-    let count = counts p.before.before in
+    let is = sym e ∙ p.plan_job-planned.ensures ∙ ap (λ (job : Job). planned job a.points.now) p.job_of.ensures in
+    let count = counts a.job.now a.values.now p.if-job-values.false in
     told_values _ _ _ _ _ (well_counted 13 a.job.now count.0 _ ∙ well_counted 5 a.values.now count.1 (plan_tests job a.points.now))
     (ap told is ∙ plan_told job a.points.now)
 
 pub returns-in-Refused : goal.returns-in-Refused
-returns-in-Refused c = let all = outcome-is c.before.before.before _ c.in-Refused.is in record { number = all.0; values = all.1 }
+returns-in-Refused c = let all = outcome-is (goal.at.returns-in-Refused c).After-plan_job-planned _ c.in-Refused.is in record { number = all.0; values = all.1 }
 
 pub returns-in-Accepted : goal.returns-in-Accepted
 returns-in-Accepted c =
-    let o = outcome-is c.before.before.before.before _ c.in-Accepted.is in record { number = o.0; values = set_all_lem (values c c.number_of_lem.result) (was c) (five c) ∙ ap (values c) c.number_of_lem.ensures ∙ o.1 }
+    let o = outcome-is (goal.at.returns-in-Accepted c).After-plan_job-planned _ c.in-Accepted.is in record { number = o.0; values = set_all_lem (values c c.number_of.result) (was c) (five c) ∙ ap (values c) c.number_of.ensures ∙ o.1 }

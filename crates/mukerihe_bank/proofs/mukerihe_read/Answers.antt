@@ -1,6 +1,6 @@
 -- `mukerihe_bank::mukerihe_read` meets its contract.
 use mathlib.Core.Path.{◌≡◌, sym, ap, ◌∙◌}
-use mathlib.Core.List.{List, ◌∷◌}
+use mathlib.Core.List.{List, [], ◌∷◌}
 use Prim.Native.Nat.{ℕ}
 use lib.Dec.{lit<}
 use lib.ListN.{length}
@@ -63,14 +63,16 @@ outcome-is p r e =
     (ap told (sym e ∙ p.read_message-parsed.ensures.outcome) ∙ read_told a.message.now room)
 
 -- and what the elements are then
-elements-is : (p : After-read_message-parsed) → let a = p.args in p.read_message-parsed.new.1.0 ≡ if_counted 6 a.fields.now (read_into a.message.now a.elements.now) a.elements.now
+elements-is : (p : After-read_message-parsed) → let a = p.args in p.read_message-parsed.new.out ≡ if_counted 6 a.fields.now (read_into a.message.now a.elements.now) a.elements.now
 elements-is p = p.read_message-parsed.ensures.elements ∙ sym (made 6 p.args.fields.now p.if-fields-ne-FIELD_WORDS.false _ _)
 
 pub returns-in-Refused : goal.returns-in-Refused
 returns-in-Refused c =
-    let o = outcome-is c.before.before.before.before.before _ c.in-Refused.is in record { number = o.0; elements = elements-is c.before.before.before.before.before; fields = o.1 }
+    let p = (goal.at.returns-in-Refused c).After-read_message-parsed in
+    let o = outcome-is p _ c.in-Refused.is in record { number = o.0; elements = elements-is p; fields = o.1 }
 
 pub returns-in-Fields : goal.returns-in-Fields
 unfolding fields
 returns-in-Fields c =
-    let o = outcome-is c.before.before.before.before.before _ c.in-Fields.is in record { number = o.0; elements = elements-is c.before.before.before.before.before; fields = set_all_lem (values c) (was c) (six c) ∙ o.1 }
+    let p = (goal.at.returns-in-Fields c).After-read_message-parsed in
+    let o = outcome-is p _ c.in-Fields.is in record { number = o.0; elements = elements-is p; fields = set_all_lem (values c) (was c) (six c) ∙ o.1 }

@@ -24,7 +24,7 @@ outcome-is p r is =
 
 pub returns-in-Refused : goal.returns-in-Refused
 unfolding signed_told
-returns-in-Refused c = let all = outcome-is c.before.before.before _ c.in-Refused.is in record { number = all.0; value = all.1 }
+returns-in-Refused c = let all = outcome-is (goal.at.returns-in-Refused c).After-signed_reading-reading _ c.in-Refused.is in record { number = all.0; value = all.1 }
 
 -- the value is held as it was read
 held : (c : In-Value) → to_z w64 (of_z w64 c.in-Value.read) ≡ c.in-Value.read
@@ -33,4 +33,4 @@ held c = search rules
 pub returns-in-Value : goal.returns-in-Value
 unfolding signed_told
 returns-in-Value c =
-    let o = outcome-is c.before.before.before _ c.in-Value.is in record { number = o.0; value = held c ∙ o.1 }
+    let o = outcome-is (goal.at.returns-in-Value c).After-signed_reading-reading _ c.in-Value.is in record { number = o.0; value = held c ∙ o.1 }

@@ -15,5 +15,5 @@ returns c =
     let told = c.write_message.ensures in
     let is = c.header_of.ensures in
     let a = c.args in let all = passed_on 6 a.fields.now c.if-fields-ne-FIELD_WORDS.false _ _ _
-    (told.0 ∙ ap (λ (x : Header). first (write_tests x a.elements.now (length a.out.now))) is)
-    (told.1 ∙ ap (λ (x : Header). written x a.elements.now a.out.now) is) in record { number = all.0; bytes = all.1 }
+    (told.number ∙ ap (λ (x : Header). first (write_tests x a.elements.now (length a.out.now))) is)
+    (told.bytes ∙ ap (λ (x : Header). written x a.elements.now a.out.now) is) in record { number = all.0; bytes = all.1 }

@@ -13,7 +13,7 @@ returns-then-job-ne-JOB_WORDS c = let all = turned_down 13 c.args.job.now c.if-j
 pub returns : goal.returns
 returns c =
     let told = c.share.ensures in
-    let is = c.Job-of.ensures in
+    let is = c.job_of.ensures in
     let a = c.args in let all = passed_on 13 a.job.now c.if-job-ne-JOB_WORDS.false _ _ _
-    (told.0 ∙ ap (λ (x : Job). first (share_tests a.matrix x a.points.now a.host a.elements.now a.masks.now (length a.out.now))) is)
-    (told.1 ∙ ap (λ (x : Job). share_after a.matrix x a.points.now a.host a.elements.now a.masks.now a.out.now) is) in record { result_value = all.0; out_after = all.1 }
+    (told.number ∙ ap (λ (x : Job). first (share_tests a.matrix x a.points.now a.host a.elements.now a.masks.now (length a.out.now))) is)
+    (told.block ∙ ap (λ (x : Job). share_after a.matrix x a.points.now a.host a.elements.now a.masks.now a.out.now) is) in record { result_value = all.0; out_after = all.1 }
