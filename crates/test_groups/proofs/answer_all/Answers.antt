@@ -1,5 +1,5 @@
 -- `test_groups::answer_all` meets its contract.
-use Rattle.std.proofs.Common.{◌-◌, refl, arith}
+use Rattle.std.proofs.Common.{refl, arith}
 use Rattle.test_groups.proofs.answer_all.Goals as goal
 
 pub loop-index-init : goal.loop-index-init

@@ -1,5 +1,5 @@
 -- `test_groups::count_right` meets its contract.
-use Rattle.std.proofs.Common.{◌-◌, arith}
+use Rattle.std.proofs.Common.{arith}
 use Rattle.test_groups.proofs.count_right.Goals as goal
 
 pub loop-set-init : goal.loop-set-init

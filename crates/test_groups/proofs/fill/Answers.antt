@@ -1,5 +1,5 @@
 -- `test_groups::fill` meets its contract.
-use Rattle.std.proofs.Common.{◌+◌, ◌-◌, ◌*◌, ◌%◌, arith, length-set}
+use Rattle.std.proofs.Common.{◌+◌, ◌*◌, ◌%◌, arith, length-set}
 use Rattle.test_groups.proofs.fill.Goals as goal
 
 pub loop-i-init : goal.loop-i-init

@@ -1,5 +1,5 @@
 -- `test_groups::hear_set` meets its contract.
-use Rattle.std.proofs.Common.{◌-◌, arith}
+use Rattle.std.proofs.Common.{arith}
 use Rattle.test_groups.proofs.hear_set.Goals as goal
 
 pub loop-i-init : goal.loop-i-init

@@ -1,5 +1,5 @@
 -- `test_groups::same` meets its contract.
-use Rattle.std.proofs.Common.{◌-◌, arith}
+use Rattle.std.proofs.Common.{arith}
 use Rattle.test_groups.proofs.same.Goals as goal
 
 pub loop-i-init : goal.loop-i-init

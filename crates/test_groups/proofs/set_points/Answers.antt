@@ -1,5 +1,5 @@
 -- `test_groups::set_points` meets its contract.
-use Rattle.std.proofs.Common.{◌-◌, arith, length-set}
+use Rattle.std.proofs.Common.{arith, length-set}
 use Rattle.test_groups.proofs.set_points.Goals as goal
 
 pub loop-i-init : goal.loop-i-init

@@ -4,20 +4,8 @@ use native.Mathlib.Omega.{arith}
 use lib.Seq.{length-take-le}
 use Rattle.whole_job.proofs.run.Goals as goal
 
-pub prepare-requires : goal.prepare-requires
-prepare-requires c = tt
-
 pub shape_of-numbers-in_default : goal.shape_of-numbers-in_default
 shape_of-numbers-in_default c = omega arith
-
-pub returns-in_default : goal.returns-in_default
-returns-in_default c = tt
-
-pub share_both-number-requires : goal.share_both-number-requires
-share_both-number-requires c = tt
-
-pub say_refused-requires : goal.say_refused-requires
-say_refused-requires c = tt
 
 pub shape_of-numbers-then-number-ne0 : goal.shape_of-numbers-then-number-ne0
 shape_of-numbers-then-number-ne0 c = omega arith
@@ -25,36 +13,15 @@ shape_of-numbers-then-number-ne0 c = omega arith
 pub shape_of-shares-then-number-ne0 : goal.shape_of-shares-then-number-ne0
 shape_of-shares-then-number-ne0 c = omega arith
 
-pub returns-then-number-ne0 : goal.returns-then-number-ne0
-returns-then-number-ne0 c = tt
-
-pub answer_size-requires : goal.answer_size-requires
-answer_size-requires c = tt
-
-pub blocks-requires : goal.blocks-requires
-blocks-requires c = tt
-
-pub least-n-requires : goal.least-n-requires
-least-n-requires c = tt
-
 pub slice_bounds-hear_all-end-2 : goal.slice_bounds-hear_all-end-2
 slice_bounds-hear_all-end-2 c = sym (length-take-le _ _ (omega arith))
-
-pub hear_all-heard-requires : goal.hear_all-heard-requires
-hear_all-heard-requires c = tt
-
-pub say_heard-requires : goal.say_heard-requires
-say_heard-requires c = tt
 
 pub slice_bounds-say_table-end-2 : goal.slice_bounds-say_table-end-2
 slice_bounds-say_table-end-2 c = sym (length-take-le _ _ (omega arith))
 
-pub say_table-requires : goal.say_table-requires
-say_table-requires c = tt
-
 pub shape_of-numbers : goal.shape_of-numbers
 shape_of-numbers c =
-    omega (arith, c.prepare.auto.1.0)
+    omega (arith, c.prepare.auto.numbers)
 
 pub shape_of-shares : goal.shape_of-shares
 shape_of-shares c = omega arith
@@ -76,6 +43,3 @@ shape_of-message c = omega arith
 
 pub shape_of-page : goal.shape_of-page
 shape_of-page c = omega arith
-
-pub returns : goal.returns
-returns c = tt

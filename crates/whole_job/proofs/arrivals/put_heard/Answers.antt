@@ -1,6 +1,5 @@
 -- `whole_job::arrivals::put_heard` meets its contract.
 use mathlib.Core.Path.{refl}
-use Prim.Native.Nat.{◌-◌}
 use native.Mathlib.Omega.{arith}
 use Rattle.whole_job.proofs.arrivals.put_heard.Goals as goal
 

@@ -1,5 +1,4 @@
 -- `whole_job::planning::has_all` meets its contract.
-use Prim.Native.Nat.{◌-◌}
 use native.Mathlib.Omega.{arith}
 use Rattle.whole_job.proofs.planning.has_all.Goals as goal
 

@@ -1,6 +1,5 @@
 -- `whole_job::sections::read_sections` meets its contract.
 use mathlib.Core.Path.{refl}
-use Prim.Native.Nat.{◌-◌}
 use native.Mathlib.Omega.{arith}
 use Rattle.whole_job.proofs.sections.read_sections.Goals as goal
 

@@ -1,5 +1,4 @@
 -- `whole_job::sections::same` meets its contract.
-use Prim.Native.Nat.{◌-◌}
 use native.Mathlib.Omega.{arith}
 use Rattle.whole_job.proofs.sections.same.Goals as goal
 

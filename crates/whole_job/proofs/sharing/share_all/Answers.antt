@@ -1,6 +1,5 @@
 -- `whole_job::sharing::share_all` meets its contract.
 use mathlib.Core.Path.{refl}
-use Prim.Native.Nat.{◌-◌}
 use native.Mathlib.Omega.{arith}
 use Rattle.whole_job.proofs.sharing.share_all.Goals as goal
 

@@ -4,26 +4,11 @@ use native.Mathlib.Omega.{arith}
 use lib.Seq.{length-take-le}
 use Rattle.whole_job.proofs.sharing.share_both.Goals as goal
 
-pub least-middle-requires : goal.least-middle-requires
-least-middle-requires c = tt
-
-pub size_a-requires : goal.size_a-requires
-size_a-requires c = tt
-
 pub slice_bounds-share_all-end-2 : goal.slice_bounds-share_all-end-2
 slice_bounds-share_all-end-2 c = sym (length-take-le _ _ (omega arith))
 
 pub shape_of-shares-then-number-ne0 : goal.shape_of-shares-then-number-ne0
 shape_of-shares-then-number-ne0 c = omega arith
 
-pub returns-then-number-ne0 : goal.returns-then-number-ne0
-returns-then-number-ne0 c = tt
-
-pub size_b-requires : goal.size_b-requires
-size_b-requires c = tt
-
 pub shape_of-shares : goal.shape_of-shares
 shape_of-shares c = omega arith
-
-pub returns : goal.returns
-returns c = tt

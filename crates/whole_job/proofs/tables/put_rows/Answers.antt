@@ -1,6 +1,5 @@
 -- `whole_job::tables::put_rows` meets its contract.
 use mathlib.Core.Path.{refl}
-use Prim.Native.Nat.{◌-◌}
 use native.Mathlib.Omega.{arith}
 use Rattle.whole_job.proofs.tables.put_rows.Goals as goal
 

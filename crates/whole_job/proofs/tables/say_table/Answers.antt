@@ -4,17 +4,8 @@ use native.Mathlib.Omega.{arith}
 use lib.Seq.{length-take-le}
 use Rattle.whole_job.proofs.tables.say_table.Goals as goal
 
-pub area-requires : goal.area-requires
-area-requires c = tt
-
-pub least-n-requires : goal.least-n-requires
-least-n-requires c = tt
-
 pub slice_bounds-decode_into-end-2 : goal.slice_bounds-decode_into-end-2
 slice_bounds-decode_into-end-2 c = sym (length-take-le _ _ (omega arith))
-
-pub decode_into-requires : goal.decode_into-requires
-decode_into-requires c = tt
 
 pub shape_of-table : goal.shape_of-table
 shape_of-table c = omega arith
@@ -24,6 +15,3 @@ shape_of-lines c = omega arith
 
 pub shape_of-page : goal.shape_of-page
 shape_of-page c = omega arith
-
-pub returns : goal.returns
-returns c = tt
