@@ -31,10 +31,12 @@ LINE = re.compile(r"^(file|old|new): ?(.*)$")
 
 
 def copy(crate, folder):
-    """Copies a crate's folder to a place that is not there yet; what was proved of it, which a check replaces and never changes, by links."""
-    folder.mkdir(parents=True)
-    for part in crate.iterdir():
-        subprocess.run(["cp", "-Rl" if part.name == "out" else "-R", part, folder / part.name], check=True)
+    """Copies a crate's folder to a place that is not there yet; what was proved of it by links: a check replaces such a file, and changes none."""
+
+    def put(one, other):
+        return os.link(one, other) if one.endswith(".oantt") else shutil.copy2(one, other)
+
+    shutil.copytree(crate, folder, copy_function=put)
 
 
 def changed(crate, edit):

@@ -121,9 +121,10 @@ def of_statement(name, edit):
     """All that is edited stands in a record of specs/, or is a line that brings names."""
     for file, old in GROUP.findall(edit):
         text = (ROOT / "crates" / name.split("/")[0] / file).read_text()
-        block = text[: text.index(old) + len(old)].split("\n\n")[-1]
-        code = re.sub(r"^(--.*\n)*", "", block)
-        if not old.startswith("use ") and not code.startswith("pub record "):
+        before = text[: text.index(old)]
+        code = re.sub(r"^(--.*\n)*", "", (before + old).split("\n\n")[-1])
+        line = (before.split("\n")[-1] + old).lstrip()
+        if not line.startswith("use ") and not code.startswith("pub record "):
             return False
     return True
 
