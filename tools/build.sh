@@ -4,6 +4,7 @@
 #   tools/build.sh libraries      target/staticlib/libmukerihe.a and libmukerihe_bank.a
 #   tools/build.sh program NAME   target/bin/NAME
 set -euo pipefail
+usage=$(sed -n '2,5s/^# \?//p' "$0")
 cd "$(dirname "$0")/.."
 
 # Copies a file that rt built, and keeps the time of one that is the same.
@@ -28,7 +29,7 @@ program\ *)
     put "crates/$2/out/$2" "target/bin/$2"
     ;;
 *)
-    sed -n '2,5s/^# \?//p' "$0" >&2
+    echo "$usage" >&2
     exit 2
     ;;
 esac

@@ -3,8 +3,10 @@
 
     tools/cycles.py
 
-It goes by names: a call is a function's name before a parenthesis, in a crate that has a function of that name. No crate calls one
-above it, so a cycle stands within a crate.
+It goes by names: a call is a function's name before a parenthesis or a turbofish, behind a dot or any path but that of another crate.
+A function that is passed on as a value, or called by a name that an import gives, is not seen: where a file brings a name of its own
+crate under another one, or a cycle is declared to the prover, it ends with 1 as well. No crate calls one above it, so a cycle stands
+within a crate.
 """
 import re
 import sys
@@ -12,18 +14,21 @@ from pathlib import Path
 
 ROOT = Path(__file__).resolve().parent.parent
 FUNCTION = re.compile(r"\bfn (\w+)")
-CALL = re.compile(r"(?<!fn )(?<!\.)\b(?:(\w+)::)?(\w+)\(")
+CALL = re.compile(r"(?<!fn )(?:\b(\w+)::)?\b(\w+)(?:::<[^;(]*>)?\(")
+HIDDEN = re.compile(r"#\[cycle|\buse (?:self|super|crate)::[^;]* as |\blet \w+ = (\w+);")
 
 
-def functions_of(crate):
-    """The functions of a crate with what each calls there."""
-    modules = {path.stem for path in crate.glob("src/*.rt")} | {"self", "super", "crate", "Self"}
-    text = "".join(re.sub(r"//.*", "", path.read_text()) for path in sorted(crate.glob("src/*.rt")))
+def text_of(crate):
+    """The sources of a crate without comments."""
+    return "".join(re.sub(r"(?m)^\s*//.*|\s//\s.*", "", path.read_text()) for path in sorted(crate.glob("src/**/*.rt")))
+
+
+def functions_of(text, others):
+    """The functions of a crate with what each calls there; others are the other crates."""
     parts = FUNCTION.split(text)[1:]
-    names = set(parts[::2])
-    calls = {name: set() for name in names}
+    calls = {name: set() for name in parts[::2]}
     for name, body in zip(parts[::2], parts[1::2]):
-        calls[name] |= {called for module, called in CALL.findall(body) if called in names and (not module or module in modules)}
+        calls[name] |= {called for module, called in CALL.findall(body) if called in calls and module not in others}
     return calls
 
 
@@ -37,12 +42,27 @@ def reached(calls, name):
     return found
 
 
+def faults(crate, others):
+    """What is wrong with a crate."""
+    text = text_of(crate)
+    calls = functions_of(text, others - {crate.name})
+    for name in sorted(calls):
+        if name in reached(calls, name):
+            yield f"{crate.name}::{name} calls itself"
+    for m in HIDDEN.finditer(text):
+        if not m[1] or m[1] in calls:
+            yield f"{crate.name}: a call cannot be seen: {m[0]}"
+    if list(crate.glob("proofs/+*")):
+        yield f"{crate.name}: proofs/ has a folder for a cycle"
+
+
 def main():
-    cycles = [f"{crate.name}::{name}" for crate in sorted((ROOT / "crates").iterdir()) for calls in [functions_of(crate)]
-              for name in sorted(calls) if name in reached(calls, name)]
-    for name in cycles:
-        print(f"cycles: {name} calls itself", file=sys.stderr)
-    sys.exit(1 if cycles else 0)
+    crates = sorted((ROOT / "crates").iterdir())
+    others = {crate.name for crate in crates} | {"io", "std"}
+    found = [fault for crate in crates for fault in faults(crate, others)]
+    for fault in found:
+        print("cycles: " + fault, file=sys.stderr)
+    sys.exit(1 if found else 0)
 
 
 if __name__ == "__main__":

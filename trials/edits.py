@@ -34,7 +34,12 @@ def copy(crate, folder):
     """Copies a crate's folder to a place that is not there yet; what was proved of it by links: a check replaces such a file, and changes none."""
 
     def put(one, other):
-        return os.link(one, other) if one.endswith(".oantt") else shutil.copy2(one, other)
+        try:
+            if one.endswith(".oantt"):
+                return os.link(one, other)
+        except OSError:
+            pass
+        return shutil.copy2(one, other)
 
     shutil.copytree(crate, folder, copy_function=put)
 

@@ -19,7 +19,7 @@ FOLDERS = {"ci": "crates/*/must-fail", "trials": "trials/edits/*"}
 # In this crate the definitions' values are what is proved: an edit of its own needs no further example. Elsewhere that holds of a
 # statement, a record that is proved.
 STATEMENTS = "promise"
-GROUP = re.compile(r"^file: (.*)\nold: (.*)\n", re.M)
+PART = re.compile(r"^(file|old): (.*)$", re.M)
 
 ERROR = re.compile(r"^(\S+?):\d+:\d+: error(\[[\w-]+\])?: (?:`([^`]+)`: )?(.*)")
 NOTE = re.compile(r"^note: (\S+?):\d+:\d+: .*\(`([^`]+)`\)")
@@ -119,7 +119,11 @@ def value_changed(log):
 
 def of_statement(name, edit):
     """All that is edited stands in a record of specs/, or is a line that brings names."""
-    for file, old in GROUP.findall(edit):
+    file = ""
+    for kind, old in PART.findall(edit):
+        if kind == "file":
+            file = old
+            continue
         text = (ROOT / "crates" / name.split("/")[0] / file).read_text()
         before = text[: text.index(old)]
         code = re.sub(r"^(--.*\n)*", "", (before + old).split("\n\n")[-1])
