@@ -213,7 +213,7 @@ def main():
             sys.exit("believe: docs/BELIEVE.md is not what docs/believe.py writes")
         if MOST_LINES < total:
             sys.exit(f"believe: the definitions have {total} lines, and should have at most {MOST_LINES}")
-        print(text.split("\n")[7])
+        print(next(line for line in text.split("\n") if " statements in " in line))
     elif sys.argv[1:]:
         sys.exit(__doc__)
     else:
