@@ -3,7 +3,9 @@
 --   first_none               no tests: done
 --   first_hit, first_miss    the first row's test holds, or does not
 --   first_clear              no test holds: not the first row's, and none after it
---   numbered rows            no row has the number 0, as a test
+--   row_positive             a number that a refusal has is not 0
+--   numbered rows            each row has the number of a refusal, as a test
+--   first_numbered           so what they tell is 0 or such a number
 --   numbered_append          one such list after another
 --   first_append             one list of tests after another
 --   first_append_clear       no test of either holds
@@ -21,6 +23,8 @@ use native.Mathlib.Nat.{suc-ne-zero}
 use lib.Dec.{T, eqb, ltb, T_not, eqb_refl}
 use borrow.Author.Tests.{ltb-false, lt-ltb, le-ltb}
 use Rattle.algebra.proofs.Tests.{and_left, and_right, both, or_left, or_right}
+use Rattle.std.proofs.Math.Facts.{eqb_yes}
+use Rattle.refusal.specs.Numbers.{number, refusal_of, sheet}
 use Rattle.refusal.specs.Chain.{Test, first, outcome, unless_refused, done, refused, outside}
 
 pub first_none : first [] ≡ 0
@@ -40,16 +44,37 @@ unfolding first
 first_clear true n rows e = absurd (suc-ne-zero n e)
 first_clear false n rows e = (refl, e)
 
+row_positive : (n : ℕ) → T (eqb (number (refusal_of n)) n) → n ≡ 0 → ⊥
+unfolding refusal_of sheet
+row_positive n t z = subst (λ (k : ℕ). T (eqb (number (refusal_of k)) k)) z t
+
 unfoldable pub numbered : List Test → Bool
 numbered [] = true
-numbered (row ∷ rows) = not (eqb row.1 0) && numbered rows
+numbered (row ∷ rows) = eqb (number (refusal_of row.1)) row.1 && numbered rows
+
+pub row_first : (n : ℕ) (rows : List Test) → T (eqb (number (refusal_of n)) n && numbered rows) → T (eqb (number (refusal_of n)) n)
+row_first n rows = and_left (eqb (number (refusal_of n)) n) (numbered rows)
+
+pub row_rest : (n : ℕ) (rows : List Test) → T (eqb (number (refusal_of n)) n && numbered rows) → T (numbered rows)
+row_rest n rows = and_right (eqb (number (refusal_of n)) n) (numbered rows)
 
 pub numbered_append : (xs ys : List Test) → T (numbered xs) → T (numbered ys) → T (numbered (xs ++ ys))
 unfolding numbered
 numbered_append [] ys t u = u
 numbered_append (x ∷ xs) ys t u =
-    both (not (eqb x.1 0)) (numbered (xs ++ ys)) (and_left (not (eqb x.1 0)) (numbered xs) t)
-    (numbered_append xs ys (and_right (not (eqb x.1 0)) (numbered xs) t) u)
+    both (eqb (number (refusal_of x.1)) x.1) (numbered (xs ++ ys)) (row_first x.1 xs t)
+    (numbered_append xs ys (row_rest x.1 xs t) u)
+
+pub first_numbered : (xs : List Test) → T (numbered xs) → (first xs ≡ 0 → ⊥) → number (refusal_of (first xs)) ≡ first xs
+unfolding first numbered
+first_numbered [] t ne = absurd (ne refl)
+first_numbered (x ∷ xs) t ne = go x.0 x.1 t ne (first_numbered xs)
+  where
+    go : (b : Bool) (n : ℕ) → T (eqb (number (refusal_of n)) n && numbered xs) → (cond b n (first xs) ≡ 0 → ⊥)
+        → (T (numbered xs) → (first xs ≡ 0 → ⊥) → number (refusal_of (first xs)) ≡ first xs)
+        → number (refusal_of (cond b n (first xs))) ≡ cond b n (first xs)
+    go true n t ne ih = eqb_yes (row_first n xs t)
+    go false n t ne ih = ih (row_rest n xs t) ne
 
 -- none of the first rows' tests holds: the later rows decide
 pub first_append : (xs ys : List Test) → T (numbered xs) → first xs ≡ 0 → first (xs ++ ys) ≡ first ys
@@ -57,10 +82,10 @@ unfolding first numbered
 first_append [] ys t z = refl
 first_append (x ∷ xs) ys t z = go x.0 x.1 t z (first_append xs ys)
   where
-    go : (b : Bool) (n : ℕ) → T (not (eqb n 0) && numbered xs) → cond b n (first xs) ≡ 0
+    go : (b : Bool) (n : ℕ) → T (eqb (number (refusal_of n)) n && numbered xs) → cond b n (first xs) ≡ 0
         → (T (numbered xs) → first xs ≡ 0 → first (xs ++ ys) ≡ first ys) → cond b n (first (xs ++ ys)) ≡ first ys
-    go true n t z ih = absurd (T_not (eqb n 0) (and_left (not (eqb n 0)) (numbered xs) t) (subst (λ (k : ℕ). T (eqb n k)) z (eqb_refl n)))
-    go false n t z ih = ih (and_right (not (eqb n 0)) (numbered xs) t) z
+    go true n t z ih = absurd (row_positive n (row_first n xs t) z)
+    go false n t z ih = ih (row_rest n xs t) z
 
 -- no test of two lists holds: none of either
 pub first_append_clear : (xs ys : List Test) → T (numbered xs) → first (xs ++ ys) ≡ 0 → (first xs ≡ 0) × (first ys ≡ 0)
@@ -68,10 +93,10 @@ unfolding first numbered
 first_append_clear [] ys t e = (refl, e)
 first_append_clear (x ∷ xs) ys t e = go x.0 x.1 t e (first_append_clear xs ys)
   where
-    go : (b : Bool) (n : ℕ) → T (not (eqb n 0) && numbered xs) → cond b n (first (xs ++ ys)) ≡ 0
+    go : (b : Bool) (n : ℕ) → T (eqb (number (refusal_of n)) n && numbered xs) → cond b n (first (xs ++ ys)) ≡ 0
         → (T (numbered xs) → first (xs ++ ys) ≡ 0 → (first xs ≡ 0) × (first ys ≡ 0)) → (cond b n (first xs) ≡ 0) × (first ys ≡ 0)
-    go true n t z ih = absurd (T_not (eqb n 0) (and_left (not (eqb n 0)) (numbered xs) t) (subst (λ (k : ℕ). T (eqb n k)) z (eqb_refl n)))
-    go false n t z ih = ih (and_right (not (eqb n 0)) (numbered xs) t) z
+    go true n t z ih = absurd (row_positive n (row_first n xs t) z)
+    go false n t z ih = ih (row_rest n xs t) z
 
 -- one of the first rows' tests holds: the later rows are not looked at
 pub first_append_hit : (xs ys : List Test) (n : ℕ) → (n ≡ 0 → ⊥) → first xs ≡ n → first (xs ++ ys) ≡ n

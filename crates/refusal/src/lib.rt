@@ -1,71 +1,101 @@
-// Refusals: the numbers of 01, "What is turned down", and of 02, and the tests that several calls share.
+// Refusals (01, "What is turned down", and 02), with their numbers, and the tests that several calls share.
 #![tactic(auto)]
 
 ghost use Rattle.std.specs.Prelude.{◌≡◌, ◌*◌, ltb};
 ghost use Rattle.refusal.specs.Chain.{outside as chain_outside};
+ghost use Rattle.refusal.specs.Numbers.{number};
 ghost use Rattle.refusal.specs.Limits.{most_elements, any_outside, sizes_outside, over_block};
 
 use words::wide_product;
 
-pub const MODULUS: u32 = 1;
+// Why a call is turned down: by a test of 01, "What is turned down", or of 02; or, from `PairKinds` on, by one of the libraries'
+// own. The messages of a host's part are not an A share and a B share; a job, fields or the values of a plan are not so many words;
+// the two messages differ in modulus, in host or in job number; or A's columns are not B's rows.
+#[derive(Clone, Copy, Debug, PartialEq, Eq)]
+pub enum Refusal {
+    Modulus,
+    Size,
+    Cuts,
+    Groups,
+    Division,
+    Block,
+    Hosts,
+    Needed,
+    Points,
+    Point,
+    RepeatedPoint,
+    Host,
+    Length,
+    Element,
+    Mask,
+    Kind,
+    Short,
+    Mark,
+    Version,
+    MessageLength,
+    HeardAbove,
+    Foreign,
+    Heard,
+    TooFew,
+    Signed,
+    Text,
+    Words,
+    Page,
+    Window,
+    OutsideWindow,
+    PairKinds,
+    Count,
+    PairModuli,
+    PairHosts,
+    PairJobs,
+    PairSizes,
+}
 
-pub const SIZE: u32 = 2;
-
-pub const CUTS: u32 = 3;
-
-pub const GROUPS: u32 = 4;
-
-pub const DIVISION: u32 = 5;
-
-pub const BLOCK: u32 = 6;
-
-pub const HOSTS: u32 = 7;
-
-pub const NEEDED: u32 = 8;
-
-pub const POINTS: u32 = 9;
-
-pub const POINT: u32 = 10;
-
-pub const REPEATED_POINT: u32 = 11;
-
-pub const HOST: u32 = 12;
-
-pub const LENGTH: u32 = 13;
-
-pub const ELEMENT: u32 = 14;
-
-pub const MASK: u32 = 15;
-
-pub const KIND: u32 = 16;
-
-pub const SHORT: u32 = 17;
-
-pub const MARK: u32 = 18;
-
-pub const VERSION: u32 = 19;
-
-pub const MESSAGE_LENGTH: u32 = 20;
-
-pub const HEARD_ABOVE: u32 = 21;
-
-pub const FOREIGN: u32 = 22;
-
-pub const HEARD: u32 = 23;
-
-pub const TOO_FEW: u32 = 24;
-
-pub const SIGNED: u32 = 25;
-
-pub const TEXT: u32 = 26;
-
-pub const WORDS: u32 = 27;
-
-pub const PAGE: u32 = 28;
-
-pub const WINDOW: u32 = 29;
-
-pub const OUTSIDE_WINDOW: u32 = 30;
+impl Refusal {
+    // The number that tells it: 1 to 30 on the sheet, 1001 to 1006 for the libraries' own.
+    pub fn number(self) -> u32
+        ensures { result ≡ number self }
+    {
+        match self {
+            Refusal::Modulus => 1,
+            Refusal::Size => 2,
+            Refusal::Cuts => 3,
+            Refusal::Groups => 4,
+            Refusal::Division => 5,
+            Refusal::Block => 6,
+            Refusal::Hosts => 7,
+            Refusal::Needed => 8,
+            Refusal::Points => 9,
+            Refusal::Point => 10,
+            Refusal::RepeatedPoint => 11,
+            Refusal::Host => 12,
+            Refusal::Length => 13,
+            Refusal::Element => 14,
+            Refusal::Mask => 15,
+            Refusal::Kind => 16,
+            Refusal::Short => 17,
+            Refusal::Mark => 18,
+            Refusal::Version => 19,
+            Refusal::MessageLength => 20,
+            Refusal::HeardAbove => 21,
+            Refusal::Foreign => 22,
+            Refusal::Heard => 23,
+            Refusal::TooFew => 24,
+            Refusal::Signed => 25,
+            Refusal::Text => 26,
+            Refusal::Words => 27,
+            Refusal::Page => 28,
+            Refusal::Window => 29,
+            Refusal::OutsideWindow => 30,
+            Refusal::PairKinds => 1001,
+            Refusal::Count => 1002,
+            Refusal::PairModuli => 1003,
+            Refusal::PairHosts => 1004,
+            Refusal::PairJobs => 1005,
+            Refusal::PairSizes => 1006,
+        }
+    }
+}
 
 // The largest numbers that several calls test (01, "The job"): a size, the elements of a block, and the hosts.
 pub const MOST_SIZE: u32 = 16384;
