@@ -8,12 +8,10 @@
 --   named n     == the modulus of modulus number n
 --   modulus_in x == the modulus of a name; a number that names none is refused, so what stands here for it does not matter
 --   told x      == what a name is on paper: the modulus's number, or refusal 1
-use Rattle.std.specs.Prelude.{Bool, List, [], ◌∷◌, ℕ, length, get_or}
+use Rattle.std.specs.Prelude.{Bool, List, [], ◌∷◌, ℕ, length, get_or, Option, Some, None}
 use Rattle.refusal.specs.Chain.{Told, done, refused, outside}
 use Rattle.field.specs.declared.Modulus.{Modulus}
 use Rattle.field.specs.declared.Modulus.TheVariants.{Q13, Q257, Q65537, Q2147483647}
-use Rattle.field.specs.declared.Named.{Named}
-use Rattle.field.specs.declared.Named.TheVariants.{Is, Unknown}
 
 unfoldable pub moduli : List ℕ
 moduli = 13 ∷ 257 ∷ 65537 ∷ 2147483647 ∷ []
@@ -36,13 +34,13 @@ number Q257 = 2
 number Q65537 = 3
 number Q2147483647 = 4
 
-unfoldable pub named : ℕ → Named
-named n = get_or (Unknown ∷ Is Q13 ∷ Is Q257 ∷ Is Q65537 ∷ Is Q2147483647 ∷ []) n Unknown
+unfoldable pub named : ℕ → Option Modulus
+named n = get_or (None ∷ Some Q13 ∷ Some Q257 ∷ Some Q65537 ∷ Some Q2147483647 ∷ []) n None
 
-abbrev pub modulus_in : Named → Modulus
-modulus_in (Is m) = m
-modulus_in Unknown = Q13
+abbrev pub modulus_in : Option Modulus → Modulus
+modulus_in (Some m) = m
+modulus_in None = Q13
 
-abbrev pub told : Named → Told ℕ
-told (Is m) = done (number m ∷ [])
-told Unknown = refused 1
+abbrev pub told : Option Modulus → Told ℕ
+told (Some m) = done (number m ∷ [])
+told None = refused 1

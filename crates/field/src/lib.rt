@@ -1,12 +1,15 @@
 // The prime field: modulus numbers, elements, products and powers.
 #![tactic(auto)]
 
-ghost use Rattle.std.specs.Prelude.{◌≡◌, ◌*◌, ◌^◌, ◌%◌};
+ghost use Rattle.std.specs.Prelude.{◌≡◌, [], ◌∷◌, ◌*◌, ◌^◌, ◌%◌};
+ghost use Rattle.refusal.specs.Chain.{answered};
 ghost use Rattle.algebra.specs.Lists.{all_below};
-ghost use Rattle.field.specs.Modulus.{prime, named};
+ghost use Rattle.field.specs.Modulus.{prime, no_modulus, named, modulus_in};
+
+use refusal::Refusal;
 
 // The moduli of 01 and 02: each is the prime in its name.
-#[derive(Clone, Copy)]
+#[derive(Clone, Copy, Debug, PartialEq, Eq)]
 pub enum Modulus {
     Q13,
     Q257,
@@ -14,23 +17,20 @@ pub enum Modulus {
     Q2147483647,
 }
 
-// What a modulus number stands for.
-#[derive(Clone, Copy)]
-pub enum Named {
-    Is(Modulus),
-    Unknown,
-}
+// The modulus of a modulus number: 1, 2, 3, 4; another number is refused.
+impl TryFrom<u32> for Modulus {
+    type Error = Refusal;
 
-// The modulus of a modulus number: 1, 2, 3, 4.
-pub fn modulus_named(number: u32) -> Named
-    ensures { result ≡ named number }
-{
-    match number {
-        1 => Named::Is(Modulus::Q13),
-        2 => Named::Is(Modulus::Q257),
-        3 => Named::Is(Modulus::Q65537),
-        4 => Named::Is(Modulus::Q2147483647),
-        0 | 5..=0xFFFF_FFFF => Named::Unknown,
+    ghost try_from_gives = { λ n outcome. outcome ≡ answered ((no_modulus n, 1) ∷ []) (modulus_in (named n)) };
+
+    fn try_from(number: u32) -> Result<Self, Refusal> {
+        match number {
+            1 => Ok(Modulus::Q13),
+            2 => Ok(Modulus::Q257),
+            3 => Ok(Modulus::Q65537),
+            4 => Ok(Modulus::Q2147483647),
+            0 | 5..=0xFFFF_FFFF => Err(Refusal::Modulus),
+        }
     }
 }
 
@@ -52,10 +52,8 @@ pub fn all_below(modulus: Modulus, xs: &[u32]) -> bool
 {
     let q = prime_of(modulus);
     let mut over = false;
-    let mut i = 0;
-    while i < xs.len() {
-        over = over | (q <= xs[i]);
-        i += 1;
+    for x in xs {
+        over = over | (q <= *x);
     }
     !over
 }
@@ -87,6 +85,7 @@ pub fn power(modulus: Modulus, x: u32, exponent: u32) -> u32
     let mut product = 1;
     let mut base = x;
     let mut rest = exponent;
+    // Stays: the exponent is halved, and no index counted.
     while 0 < rest {
         if rest % 2 == 1 {
             product = multiply(modulus, product, base);

@@ -6,13 +6,13 @@
 --   refused_on, passed_on            a call's tests begin with those of a call that it makes: that one refuses, or does not
 --   answered_none                    there are no tests
 --   number_told                      what is told of a call's outcome is what its tests tell
-use mathlib.Core.Path.{◌≡◌, refl, sym, ap, ◌∙◌}
+use mathlib.Core.Path.{◌≡◌, refl, ap}
 use mathlib.Core.Bool.{Bool, true, false}
 use mathlib.Core.List.{List, [], ◌∷◌, ◌++◌}
 use Prim.Native.Nat.{ℕ, zero, suc}
-use Rattle.std.specs.Prelude.{Result, Ok, Err}
+use Rattle.std.specs.Prelude.{Ok, Err}
 use native.Mathlib.Nat.{suc-ne-zero}
-use lib.Dec.{T, eqb}
+use lib.Dec.{T}
 use Rattle.refusal.specs.declared.Refusal.{Refusal}
 use Rattle.refusal.specs.Numbers.{number, refusal_of}
 use Rattle.refusal.specs.Chain.{Test, first, outcome, answered, number_in}

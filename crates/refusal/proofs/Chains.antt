@@ -16,11 +16,11 @@
 --   inside_low, inside_high  what a number in its range tells
 --   inside, under, over      a number is in a range, or is not
 use mathlib.Core.Path.{◌≡◌, refl, sym, ap, ap₂, subst}
-use mathlib.Core.Bool.{Bool, true, false, not, cond, ◌&&◌, ◌||◌}
+use mathlib.Core.Bool.{Bool, true, false, cond, ◌&&◌, ◌||◌}
 use mathlib.Core.List.{List, [], ◌∷◌, ◌++◌}
 use Prim.Native.Nat.{ℕ, zero, suc, ◌<◌, ◌≤◌}
 use native.Mathlib.Nat.{suc-ne-zero}
-use lib.Dec.{T, eqb, ltb, T_not, eqb_refl}
+use lib.Dec.{T, eqb, ltb}
 use borrow.Author.Tests.{ltb-false, lt-ltb, le-ltb}
 use Rattle.algebra.proofs.Tests.{and_left, and_right, both, or_left, or_right}
 use Rattle.std.proofs.Math.Facts.{eqb_yes}
