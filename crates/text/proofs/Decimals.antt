@@ -7,7 +7,6 @@
 --   decimal_one                     a number of one digit
 --   decimal_tens, decimal_more      a larger one: its last digit after those of its tenth, and a digit after others
 --   numerals                        the digits of a number of at most ten digits: the statement of specs/Numerals.antt
---   last_digit                      a number less ten times its tenth is its last digit
 --   Digits                          the last digits of n at the end of a buffer, from index `start` on, and the rest of n
 --   digits_start, digits_more       none of them, and one more
 --   digits_last, digits_first       the first digit of n makes them whole, and where it stands
@@ -164,10 +163,6 @@ numerals n h = record {
   alone = λ e. ap decimal e ∙ decimal_one 0 (omega arith);
   leads = λ pos. spell_leads 9 n pos h;
 }
-
-pub last_digit : (n : ℕ) → 48 + (n - 10 * (n / 10)) ≡ digit (n % 10)
-unfolding digit
-last_digit n = omega arith
 
 -- a byte stored, and those behind it
 stored : (bytes : List ℕ) (i v : ℕ) → i < length bytes → drop i (set bytes i v) ≡ v ∷ drop (suc i) bytes

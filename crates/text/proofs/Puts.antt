@@ -5,15 +5,19 @@
 --   after_within            the offset after them does not leave the buffer
 --   length_put              a buffer keeps its length
 --   put_put                 some bytes, and others after them, where all fit
-use mathlib.Core.Path.{◌≡◌, sym, ap, ◌∙◌}
+--   same_bytes              the same byte everywhere
+use mathlib.Core.Path.{◌≡◌, refl, sym, ap, ◌∙◌}
 use mathlib.Core.Logic.{⊎_elim}
 use mathlib.Core.List.{List, ◌++◌, append_assoc}
-use Prim.Native.Nat.{ℕ, ◌+◌, ◌<◌, ◌≤◌}
+use Prim.Native.Nat.{ℕ, zero, suc, ◌+◌, ◌<◌, ◌≤◌}
 use native.Mathlib.Nat.{le_refl}
 use native.Mathlib.Omega.{arith}
-use lib.ListN.{length, take, drop, length-append}
+use native.Mathlib.Numerals.{add-one}
+use lib.ListN.{length, replicate, take, drop, length-append}
 use lib.Seq.{take-length, drop-drop, paste, length-paste, take-paste, drop-paste}
 use borrow.Author.Tests.{le-leb, lt-leb}
+use Rattle.std.proofs.lemmas.List.{replicate_more}
+use Rattle.algebra.specs.Lists.{tab}
 use Rattle.algebra.proofs.Orders.{le_or_lt}
 use Rattle.text.specs.Internal.{fits, put, after}
 
@@ -76,3 +80,8 @@ module _ (buffer : List ℕ) (at : ℕ) (xs ys : List ℕ) (room : at + length x
       ∙ ap (λ (zs : List ℕ). take at buffer ++ zs ++ drop (at + length xs + length ys) buffer) (sym (take-length (xs ++ ys)))
       ∙ ap (λ (k : ℕ). take at buffer ++ take (length (xs ++ ys)) (xs ++ ys) ++ drop k buffer) both
       ∙ sym (put_fits buffer at (xs ++ ys) (omega (arith, length-append xs ys)))
+
+pub same_bytes : (n byte : ℕ) → replicate n byte ≡ tab (λ i. byte) n
+unfolding tab
+same_bytes zero byte = refl
+same_bytes (suc n) byte = rw (← same_bytes n byte) (rw (replicate_more n byte) (rw add-one refl))
