@@ -2,22 +2,29 @@
 --
 --   number_of_one, number_of_two, number_of_four    as `words` reads them
 --   length_elements, element_is                     the elements of bytes, one by one
---   write_four, length_four                         one more element is written as its four bytes; the output stays as long
+--   bytes_of_four                                   the bytes of a number of four bytes, one by one
+--   write_four                                      one more element is written as its four bytes
 --   written_exact                                   elements written where they just fit
 --   no_bit_differs                                  differing bits are gathered: none is found where two numbers are equal
+--   below_all                                       whether each element is below a number, from a search for one that is not
 use mathlib.Core.Path.{◌≡◌, sym, ap, ap₂, ◌∙◌}
-use mathlib.Core.Bool.{true, ◌&&◌, and-eq-true_iff}
-use mathlib.Core.List.{List, [], ◌∷◌, ◌++◌, append-nil}
-use Prim.Native.Nat.{ℕ, suc, ◌+◌, ◌*◌, ◌/◌, ◌%◌, ◌<◌, ◌≤◌, min}
-use native.Mathlib.Nat.{add-zero}
+use mathlib.Core.Bool.{Bool, true, false, ◌&&◌, and-eq-true_iff}
+use mathlib.Core.List.{List, [], ◌∷◌, ◌++◌, append_assoc, append-nil}
+use Prim.Native.Nat.{ℕ, ◌+◌, ◌-◌, ◌*◌, ◌/◌, ◌%◌, ◌<◌, ◌≤◌, min}
+use native.Mathlib.Nat.{zero-add, add-zero}
 use native.Mathlib.Numerals.{add-one}
 use native.Mathlib.Omega.{arith}
+use borrow.Rule.Slice.PartMut.{put_mid}
 use lib.Bits.{bit_or, bit_xor, or_add_and, xor_add_and, and_le_l, and_le_r, xor_self}
 use lib.Dec.{eqb}
-use lib.ListN.{length, get_or, take, drop, set, length-set, drop_of_length-le}
-use lib.Seq.{take-suc, take-length, take_at, drop-drop, drop-append-add, length-take-le, sets-eq}
+use lib.ListN.{length, get_or, take, drop, drop_of_length-le}
+use lib.Seq.{take-suc, take-length, take_at, drop_at, drop-drop, length-take-le}
 use borrow.Author.Tests.{eqb-true, eq-eqb}
-use Rattle.algebra.proofs.Lists.{length_tab, get_or_tab}
+use Rattle.std.specs.Bool.{MatchBool}
+use Rattle.std.specs.List.{range_with_len, AllWithin, HoldsAt}
+use Rattle.std.proofs.lemmas.List.FromFn.{length-range_with_len, get_or-range_with_len}
+use Rattle.algebra.specs.Lists.{all_below}
+use Rattle.algebra.proofs.Lists.{length_tab, get_or_tab, below_test, below_stop}
 use Rattle.algebra.proofs.Tests.{tests_alike}
 use Rattle.message_bytes.specs.Bytes.{big_endian, number_at, bytes_of, elements_of}
 use Rattle.message_bytes.specs.Internal.{common}
@@ -45,7 +52,7 @@ pub element_is : (n : ℕ) (bytes : List ℕ) (i : ℕ) → i < n → get_or (el
 unfolding elements_of
 element_is n bytes i h = get_or_tab (λ (k : ℕ). number_at bytes (k * 4) 4) n i 0 h
 
-bytes_of_four : (x : ℕ) → big_endian 4 x ≡ x / 16777216 % 256 ∷ x / 65536 % 256 ∷ x / 256 % 256 ∷ x % 256 ∷ []
+pub bytes_of_four : (x : ℕ) → big_endian 4 x ≡ x / 16777216 % 256 ∷ x / 65536 % 256 ∷ x / 256 % 256 ∷ x % 256 ∷ []
 unfolding big_endian
 bytes_of_four x =
     let third : x / 256 / 256 ≡ x / 65536 = omega arith in
@@ -58,37 +65,21 @@ bytes_more xs i h =
     rw (add-one, take-suc xs i 0 h)
     (bytes_of_append (take i xs) (get_or xs i 0 ∷ []) ∙ ap (λ (l : List ℕ). bytes_of (take i xs) ++ l) (append-nil (big_endian 4 (get_or xs i 0))))
 
-stores : (out : List ℕ) (start a b c d : ℕ) → start + 4 ≤ length out
-    → set (set (set (set out start a) (start + 1) b) (start + 2) c) (start + 3) d ≡ take start out ++ (a ∷ b ∷ c ∷ d ∷ []) ++ drop (start + 4) out
-stores out start a b c d h =
-    let one : start + 1 ≡ suc start = omega arith in
-    let two : start + 2 ≡ suc (suc start) = omega arith in
-    let three : start + 3 ≡ suc (suc (suc start)) = omega arith in
-    rw (one, two, three) (sets-eq (a ∷ b ∷ c ∷ d ∷ []) out start h)
-
-module _ (xs rest out : List ℕ) (i : ℕ) (is : out ≡ bytes_of (take i xs) ++ drop (i * 4) rest) where
-  pub write_four : {n a b c d : ℕ} → i < n → n ≤ length xs → n * 4 ≤ length rest → length out ≡ length rest
-      → a ≡ get_or xs i 0 / 16777216 % 256 → b ≡ get_or xs i 0 / 65536 % 256 → c ≡ get_or xs i 0 / 256 % 256 → d ≡ get_or xs i 0 % 256
-      → set (set (set (set out (i * 4) a) (i * 4 + 1) b) (i * 4 + 2) c) (i * 4 + 3) d ≡ bytes_of (take (i + 1) xs) ++ drop ((i + 1) * 4) rest
-  write_four {n} h enough room same ea eb ec ed =
-      let x = get_or xs i 0 in
-      let n : length (bytes_of (take i xs)) ≡ i * 4 = omega (arith, length_bytes_of (take i xs), length-take-le i xs (omega arith)) in
-      let front : take (i * 4) out ≡ bytes_of (take i xs) = ap (take (i * 4)) is ∙ take_at (bytes_of (take i xs)) _ _ n in
-      let seam : i * 4 + 4 ≡ length (bytes_of (take i xs)) + 4 = omega arith in
+module _ (xs rest out : List ℕ) (i : ℕ) where
+  pub write_four : out ≡ bytes_of (take i xs) ++ drop (i * 4) rest → i < length xs
+      → put_mid (i * 4) (i * 4 + 4 - i * 4) out (big_endian 4 (get_or xs i 0)) ≡ bytes_of (take (i + 1) xs) ++ drop ((i + 1) * 4) rest
+  write_four is h =
+      let front = bytes_of (take i xs) in
+      let four = big_endian 4 (get_or xs i 0) in
+      let long : length front ≡ i * 4 = omega (arith, length_bytes_of (take i xs), length-take-le i xs (omega arith)) in
+      let width : i * 4 + 4 - i * 4 ≡ 4 = omega arith in
       let end : i * 4 + 4 ≡ (i + 1) * 4 = omega arith in
-      let back : drop (i * 4 + 4) out ≡ drop ((i + 1) * 4) rest
-      = ap₂ drop seam is
-      ∙ drop-append-add (bytes_of (take i xs)) (drop (i * 4) rest) 4
-      ∙ drop-drop 4 (i * 4) rest
-      ∙ ap (λ (k : ℕ). drop k rest) end in
-      let more : bytes_of (take i xs) ++ (x / 16777216 % 256 ∷ x / 65536 % 256 ∷ x / 256 % 256 ∷ x % 256 ∷ []) ≡ bytes_of (take (i + 1) xs)
-      = ap (λ (l : List ℕ). bytes_of (take i xs) ++ l) (sym (bytes_of_four x)) ∙ sym (bytes_more xs i (omega arith)) in
-      rw (ea, eb, ec, ed) (stores out (i * 4) _ _ _ _ (omega arith)
-      ∙ ap₂ (λ (l r : List ℕ). l ++ (x / 16777216 % 256 ∷ x / 65536 % 256 ∷ x / 256 % 256 ∷ x % 256 ∷ []) ++ r) front back
-      ∙ ap (λ (l : List ℕ). l ++ drop ((i + 1) * 4) rest) more)
-
-pub length_four : (out : List ℕ) (i a b c d : ℕ) → length (set (set (set (set out (i * 4) a) (i * 4 + 1) b) (i * 4 + 2) c) (i * 4 + 3) d) ≡ length out
-length_four out i a b c d = rw (length-set, length-set, length-set, length-set)
+      let kept : take (i * 4) out ≡ front = ap (take (i * 4)) is ∙ take_at front _ _ long in
+      let back : drop (i * 4 + 4 - i * 4) (drop (i * 4) out) ≡ drop ((i + 1) * 4) rest
+      = ap₂ drop width (ap (drop (i * 4)) is ∙ drop_at front _ _ long) ∙ drop-drop 4 (i * 4) rest ∙ ap (λ (k : ℕ). drop k rest) end in
+      ap₂ (λ (l r : List ℕ). l ++ (four ++ r)) kept back
+      ∙ sym (append_assoc front four (drop ((i + 1) * 4) rest))
+      ∙ ap (λ (l : List ℕ). l ++ drop ((i + 1) * 4) rest) (sym (bytes_more xs i h))
 
 pub written_exact : (out xs : List ℕ) → length out ≡ 4 * length xs → bytes_of (take (common out xs) xs) ++ drop (common out xs * 4) out ≡ bytes_of xs
 unfolding common
@@ -109,3 +100,19 @@ no_bit_differs d a b =
     (λ (t : (eqb d 0 && eqb a b) ≡ true).
     let parts = (and-eq-true_iff (eqb d 0) (eqb a b)).0 t in
     eq-eqb (bit_or d x) 0 (ap₂ (λ (c e : ℕ). bit_or c (bit_xor e b)) (eqb-true d 0 parts.0) (eqb-true a b parts.1) ∙ xor_self b))
+
+pub below_all : (q n : ℕ) (bytes : List ℕ) (r : Bool)
+    → MatchBool r (AllWithin (λ i. number_at bytes (i * 4) 4 < q) (range_with_len 0 n) 0 (length (range_with_len 0 n)))
+    ((k : ℕ) × (k < length (range_with_len 0 n)) × HoldsAt (λ i. q ≤ number_at bytes (i * 4) 4) (range_with_len 0 n) k)
+    → r ≡ all_below q (elements_of n bytes)
+below_all q n bytes true each =
+    sym (below_test q (elements_of n bytes)
+    (λ i h.
+    let l : i < n = omega (arith, length_elements n bytes) in
+    let here = each i 0 (omega arith) (omega (arith, length-range_with_len 0 n)) in
+    omega (arith, element_is n bytes i l, rw (get_or-range_with_len 0 n i 0 l, zero-add) at here)))
+below_all q n bytes false (k, l, high) =
+    let h : k < n = omega (arith, length-range_with_len 0 n) in
+    let here = high 0 in
+    sym (below_stop q (elements_of n bytes) k (omega (arith, length_elements n bytes))
+    (omega (arith, element_is n bytes k h, rw (get_or-range_with_len 0 n k 0 h, zero-add) at here)))

@@ -8,19 +8,18 @@ ghost use Rattle.message_bytes.specs.Bytes.{number_at, bytes_of, elements_of};
 ghost use Rattle.message_bytes.specs.Internal.{common};
 
 use field::Modulus;
-use words::{least, low_byte, word};
 
 // The element whose four bytes begin at an offset.
 fn element_at(bytes: &[u8], start: usize) -> u32
     requires { start + 4 ≤ length bytes.now }
     ensures { result ≡ number_at bytes.now start 4 }
 {
-    word(
+    u32::from_be_bytes([
         bytes[start],
         bytes[start + 1],
         bytes[start + 2],
         bytes[start + 3],
-    )
+    ])
 }
 
 // Reads elements from bytes, as many as there are and have room; the rest of the output stays as it was.
@@ -28,11 +27,9 @@ pub fn read_elements(bytes: &[u8], out: &mut [u32])
     ensures { let given = bytes.now in let room = out.old in let n = common given room in
         out.new ≡ elements_of n given ++ drop n room }
 {
-    let n = least(bytes.len() / 4, out.len());
-    let mut i = 0;
-    while i < n {
+    let n = (bytes.len() / 4).min(out.len());
+    for i in 0..n {
         out[i] = element_at(bytes, i * 4);
-        i += 1;
     }
 }
 
@@ -41,16 +38,10 @@ pub fn write_elements(xs: &[u32], out: &mut [u8])
     ensures { let given = xs.now in let room = out.old in let n = common room given in
         out.new ≡ bytes_of (take n given) ++ drop (n * 4) room }
 {
-    let n = least(out.len() / 4, xs.len());
-    let mut i = 0;
-    while i < n {
-        let x = xs[i];
+    let n = (out.len() / 4).min(xs.len());
+    for i in 0..n {
         let start = i * 4;
-        out[start] = low_byte(x / 16777216);
-        out[start + 1] = low_byte(x / 65536);
-        out[start + 2] = low_byte(x / 256);
-        out[start + 3] = low_byte(x);
-        i += 1;
+        out[start..start + 4].copy_from_slice(&xs[i].to_be_bytes());
     }
 }
 
@@ -59,12 +50,8 @@ pub fn copy_bytes(bytes: &[u8], out: &mut [u8])
     ensures { let given = bytes.now in let room = out.old in let n = min (length given) (length room) in
         out.new ≡ take n given ++ drop n room }
 {
-    let n = least(bytes.len(), out.len());
-    let mut i = 0;
-    while i < n {
-        out[i] = bytes[i];
-        i += 1;
-    }
+    let n = bytes.len().min(out.len());
+    out[..n].copy_from_slice(&bytes[..n]);
 }
 
 // Every element that the bytes hold is below the prime.
@@ -72,15 +59,7 @@ pub fn bytes_below(modulus: Modulus, bytes: &[u8]) -> bool
     ensures { let given = bytes.now in result ≡ all_below (prime modulus) (elements_of (length given / 4) given) }
 {
     let q = field::prime_of(modulus);
-    let n = bytes.len() / 4;
-    let mut i = 0;
-    while i < n {
-        if q <= element_at(bytes, i * 4) {
-            return false;
-        }
-        i += 1;
-    }
-    true
+    (0..bytes.len() / 4).all(|i| element_at(bytes, i * 4) < q)
 }
 
 // The bytes are those of the elements, four for each, and nothing after.
@@ -91,10 +70,8 @@ pub fn same_bytes(bytes: &[u8], xs: &[u32]) -> bool
         return false;
     }
     let mut differ = 0;
-    let mut i = 0;
-    while i < xs.len() {
-        differ = differ | (element_at(bytes, i * 4) ^ xs[i]);
-        i += 1;
+    for (i, x) in xs.iter().enumerate() {
+        differ |= element_at(bytes, i * 4) ^ *x;
     }
     differ == 0
 }

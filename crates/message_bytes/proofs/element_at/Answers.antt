@@ -1,7 +1,7 @@
 -- `message_bytes::element_at` meets its contract.
-use mathlib.Core.Path.{sym, ◌∙◌}
+use native.Mathlib.Omega.{arith}
 use Rattle.message_bytes.proofs.Words.{number_of_four}
 use Rattle.message_bytes.proofs.element_at.Goals as goal
 
 pub returns : goal.returns
-returns c = c.word.ensures ∙ sym (number_of_four _ _)
+returns c = omega (arith, number_of_four c.args.bytes.now c.args.start, c.from_be_bytes.ensures)

@@ -1,6 +1,5 @@
 -- `message_bytes::same_bytes` meets its contract.
 use mathlib.Core.Path.{◌≡◌}
-use Prim.Native.Nat.{◌-◌, ◌*◌, ◌≤◌}
 use lib.Dec.{eqb}
 use lib.ListN.{length, take}
 use Rattle.algebra.specs.Lists.{same}
@@ -8,12 +7,4 @@ use Rattle.message_bytes.specs.Bytes.{elements_of}
 use Rattle.message_bytes.proofs.same_bytes.Given as goal
 
 abbrev pub invariant-loop-i : goal.invariant-loop-i
-invariant-loop-i l =
-    record {
-      short : l.i ≤ length l.xs;
-      whole : length l.bytes ≡ length l.xs * 4;
-      is : eqb l.differ 0 ≡ same (take l.i (elements_of (length l.xs) l.bytes)) (take l.i l.xs);
-    }
-
-abbrev pub decreases-loop-i : goal.decreases-loop-i
-decreases-loop-i l = length l.xs - l.i
+invariant-loop-i l = eqb l.differ 0 ≡ same (take l.i (elements_of (length l.xs) l.bytes)) (take l.i l.xs)

@@ -1,20 +1,10 @@
 -- `message_bytes::write_elements` meets its contract.
 use mathlib.Core.Path.{◌≡◌}
 use mathlib.Core.List.{◌++◌}
-use Prim.Native.Nat.{◌-◌, ◌*◌, ◌≤◌}
-use lib.ListN.{length, take, drop}
+use Prim.Native.Nat.{◌*◌}
+use lib.ListN.{take, drop}
 use Rattle.message_bytes.specs.Bytes.{bytes_of}
 use Rattle.message_bytes.proofs.write_elements.Given as goal
 
 abbrev pub invariant-loop-i : goal.invariant-loop-i
-invariant-loop-i l =
-    record {
-      short : l.i ≤ l.n;
-      enough : l.n ≤ length l.xs;
-      room : l.n * 4 ≤ length l.initial.out;
-      same : length l.out ≡ length l.initial.out;
-      is : l.out ≡ bytes_of (take l.i l.xs) ++ drop (l.i * 4) l.initial.out;
-    }
-
-abbrev pub decreases-loop-i : goal.decreases-loop-i
-decreases-loop-i l = l.n - l.i
+invariant-loop-i l = l.out ≡ bytes_of (take l.i l.xs) ++ drop (l.i * 4) l.initial.out
