@@ -3,7 +3,7 @@
 
     trials/edits.py [FOLDER]    FOLDER has edits, a folder for each crate; without it, those of crates/*/must-fail and of trials/edits
 
-Each crate is first checked as it is. An edit is then put into a copy, and `rt check` checks the crate again: it takes what the edit
+Each crate, or of a FOLDER each that it has edits for, is first checked as it is. An edit is then put into a copy, and `rt check` checks the crate again: it takes what the edit
 leaves as it was from that first check, so an edit costs what it touches, and not its whole crate. What the prover said of each is in
 target/trials, CRATE/LABEL/.log, for trials/judge.py. It prints a line for each, and ends with 0 where all are refused.
 """
@@ -119,12 +119,21 @@ def edits_of(folder):
     return sorted(own + edits_of(ROOT / "trials" / "edits"), key=lambda work: (work[0], work[1].name))
 
 
-def tried(edits):
-    """Tries all edits: what becomes of each, by CRATE/LABEL."""
-    shutil.rmtree(LOGS, ignore_errors=True)
-    ran = subprocess.run(["rt", "all", "check"], cwd=ROOT, stdout=subprocess.PIPE, stderr=subprocess.STDOUT, text=True)
+def proved(folder, *words):
+    """Proves a folder, or ends with what the prover says."""
+    ran = subprocess.run(["rt", *words], cwd=folder, stdout=subprocess.PIPE, stderr=subprocess.STDOUT, text=True)
     if ran.returncode != 0:
-        sys.exit(f"edits: the crates are not proved as they are:\n{ran.stdout[-2000:]}")
+        sys.exit(f"edits: not proved as it is: {folder}:\n{ran.stdout[-2000:]}")
+
+
+def tried(edits, some):
+    """Tries all edits, or some of a folder: what becomes of each, by CRATE/LABEL."""
+    shutil.rmtree(LOGS, ignore_errors=True)
+    if some:
+        for crate in sorted({crate for crate, _ in edits}):
+            proved(ROOT / "crates" / crate, "check")
+    else:
+        proved(ROOT, "all", "check")
     LOGS.mkdir(parents=True)
     with tempfile.TemporaryDirectory(dir=ROOT / "target") as room:
         rooms = Rooms(Path(room).resolve())
@@ -137,7 +146,7 @@ def main():
     if len(words) > 1:
         sys.exit(__doc__)
     began = time.monotonic()
-    verdicts = tried(edits_of(Path(words[0]) if words else None))
+    verdicts = tried(edits_of(Path(words[0]) if words else None), bool(words))
     refused = sum(verdict == REFUSED for verdict in verdicts.values())
     print(f"edits: {refused} of {len(verdicts)} refused, {time.monotonic() - began:.0f} s")
     sys.exit(0 if verdicts and refused == len(verdicts) else 1)
