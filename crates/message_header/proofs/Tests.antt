@@ -11,17 +11,18 @@ use lib.ListN.{length}
 use borrow.Author.Tests.{le-ltb}
 use Rattle.refusal.specs.Chain.{first, differs}
 use Rattle.refusal.proofs.Chains.{first_miss, numbered}
+use Rattle.refusal.specs.Numbers.{refusal_of, sheet}
 use Rattle.message_bytes.specs.Bytes.{number_at}
 use Rattle.message_header.specs.declared.Header.{Header}
 use Rattle.message_header.specs.Header.{mark, version, header_of, field_tests, header_tests}
 
 pub fields_numbered : (h : Header) → T (numbered (field_tests h))
-unfolding field_tests numbered
+unfolding field_tests numbered refusal_of sheet
 fields_numbered h = tt
 
 module _ (message : List ℕ) where
   pub header_numbered : T (numbered (header_tests message))
-  unfolding header_tests field_tests numbered
+  unfolding header_tests field_tests numbered refusal_of sheet
   header_numbered = tt
 
   pub past_version : 16 ≤ length message → differs (number_at message 0 3) mark ≡ false → differs (number_at message 3 2) version ≡ false

@@ -1,24 +1,32 @@
 -- What the calls of this crate return, which only contracts cite.
 --
---   checked h       == what the tests of the fields return: their modulus, or the number of the first test that holds
---   opened message  == what reading a message's header returns: its fields and their modulus, or the number of the first test
---                      that holds
-use Rattle.std.specs.Prelude.{List, ℕ}
-use Rattle.refusal.specs.Chain.{first, outcome}
+--   kind_number k   == the number of a kind
+--   kind_of n       == the kind of a number; a number of none is refused, so what stands here for it does not matter
+--   checked h       == what the tests of the fields return: their modulus, or the refusal whose test holds first
+--   opened message  == what reading a message's header returns: its fields and their modulus, or the refusal whose test holds
+--                      first
+use Rattle.std.specs.Prelude.{List, [], ◌∷◌, ℕ, get_or, Result}
+use Rattle.refusal.specs.declared.Refusal.{Refusal}
+use Rattle.refusal.specs.Chain.{answered}
+use Rattle.field.specs.declared.Modulus.{Modulus}
 use Rattle.field.specs.Modulus.{named, modulus_in}
 use Rattle.message_header.specs.declared.Header.{Header}
-use Rattle.message_header.specs.declared.Checked.{Checked}
-use Rattle.message_header.specs.declared.Checked.TheVariants.{Fit}
-use Rattle.message_header.specs.declared.Checked.TheVariants.{Refused as Checked-as-Refused}
-use Rattle.message_header.specs.declared.Opened.{Opened}
-use Rattle.message_header.specs.declared.Opened.TheVariants.{Fields}
-use Rattle.message_header.specs.declared.Opened.TheVariants.{Refused as Opened-as-Refused}
+use Rattle.message_header.specs.declared.Kind.{Kind}
+use Rattle.message_header.specs.declared.Kind.TheVariants.{AShare, BShare, Answer}
 use Rattle.message_header.specs.Header.{header_of, field_tests, header_tests}
 
-unfoldable pub checked : Header → Checked
-checked h = outcome (first (field_tests h)) (Fit (modulus_in (named h.modulus))) Checked-as-Refused
+abbrev pub kind_number : Kind → ℕ
+kind_number AShare = 1
+kind_number BShare = 2
+kind_number Answer = 3
 
-unfoldable pub opened : List ℕ → Opened
+unfoldable pub kind_of : ℕ → Kind
+kind_of n = get_or (AShare ∷ AShare ∷ BShare ∷ Answer ∷ []) n Answer
+
+unfoldable pub checked : Header → Result Modulus Refusal
+checked h = answered (field_tests h) (modulus_in (named h.modulus))
+
+unfoldable pub opened : List ℕ → Result (Header × Modulus) Refusal
 opened message =
     let h = header_of message in
-    outcome (first (header_tests message)) (Fields h (modulus_in (named h.modulus))) Opened-as-Refused
+    answered (header_tests message) (h, modulus_in (named h.modulus))

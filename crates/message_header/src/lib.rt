@@ -1,18 +1,18 @@
 // The header of a message, version 1: its fields, their tests, and its 16 bytes.
 #![tactic(auto)]
 
-ghost use Rattle.std.specs.Prelude.{◌≡◌, length, ◌≤◌};
-ghost use Rattle.refusal.specs.Chain.{outside as chain_outside, differs};
+ghost use Rattle.std.specs.Prelude.{◌≡◌, [], ◌∷◌, length, ◌≤◌};
+ghost use Rattle.refusal.specs.Chain.{outside as chain_outside, answered, differs};
 ghost use Rattle.message_bytes.specs.Bytes.{number_at};
 ghost use Rattle.message_header.specs.Header.{mark, version, header, header_of};
-ghost use Rattle.message_header.specs.Internal.{checked, opened};
+ghost use Rattle.message_header.specs.Internal.{kind_number, kind_of, checked, opened};
 
-use field::{Modulus, Named};
-use refusal::outside;
-use words::{low_byte, pair, word};
+use field::Modulus;
+use refusal::{Refusal, outside};
 
-// A message's fields: kind 1 is an A share, 2 a B share, 3 an answer; number is the job number.
-#[derive(Clone, Copy)]
+// A message's fields: kind is the number of its kind, number is the job number.
+// Stays: kind and modulus are numbers, not `Kind` and `Modulus`: a caller may lend any, which `check_fields` refuses with 16 or 1.
+#[derive(Clone, Copy, Debug, PartialEq, Eq)]
 pub struct Header {
     pub kind: u32,
     pub modulus: u32,
@@ -22,90 +22,83 @@ pub struct Header {
     pub number: u32,
 }
 
-// What the tests of the fields return: the modulus that the fields name, or the number of the first test that holds.
-#[derive(Clone, Copy)]
-pub enum Checked {
-    Fit(Modulus),
-    Refused(u32),
-}
-
-// What reading a header returns: the fields and the modulus that they name, or the number of the first test that holds.
-#[derive(Clone, Copy)]
-pub enum Opened {
-    Fields(Header, Modulus),
-    Refused(u32),
-}
-
 // The kinds of a message.
-pub const A_SHARE: u32 = 1;
+#[derive(Clone, Copy, Debug, PartialEq, Eq)]
+pub enum Kind {
+    AShare,
+    BShare,
+    Answer,
+}
 
-pub const B_SHARE: u32 = 2;
+// The number of a kind: 1, 2, 3.
+impl From<Kind> for u32 {
+    ghost from_gives = { λ kind n. n ≡ kind_number kind };
 
-pub const ANSWER: u32 = 3;
+    fn from(kind: Kind) -> u32 {
+        match kind {
+            Kind::AShare => 1,
+            Kind::BShare => 2,
+            Kind::Answer => 3,
+        }
+    }
+}
 
-// "MDO" as one number.
-const MARK: u32 = 0x4D444F;
+// The kind of a number; another number is refused.
+impl TryFrom<u32> for Kind {
+    type Error = Refusal;
+
+    ghost try_from_gives = { λ n outcome. outcome ≡ answered ((chain_outside 1 3 n, 16) ∷ []) (kind_of n) };
+
+    fn try_from(number: u32) -> Result<Self, Refusal> {
+        match number {
+            1 => Ok(Kind::AShare),
+            2 => Ok(Kind::BShare),
+            3 => Ok(Kind::Answer),
+            0 | 4..=0xFFFF_FFFF => Err(Refusal::Kind),
+        }
+    }
+}
+
+// The first three bytes.
+const MARK: [u8; 3] = *b"MDO";
+
+// The next two, as one number.
+const VERSION: u16 = 1;
 
 // How many bytes a header has.
 pub const HEADER_BYTES: usize = 16;
 
-// The kind is not that of an A share, a B share or an answer.
-fn kind_test(kind: u32) -> bool
-    ensures { result ≡ chain_outside 1 3 kind }
-{
-    match kind {
-        0 => true,
-        1..=3 => false,
-        4..=0xFFFF_FFFF => true,
-    }
-}
-
 // The tests of the fields: 16, 1, 12, 2, 6.
-pub fn check_fields(h: Header) -> Checked
+pub fn check_fields(h: Header) -> Result<Modulus, Refusal>
     ensures { result ≡ checked h }
 {
-    if kind_test(h.kind) {
-        return Checked::Refused(refusal::KIND);
-    }
-    let Named::Is(modulus) = field::modulus_named(h.modulus) else {
-        return Checked::Refused(refusal::MODULUS);
-    };
+    Kind::try_from(h.kind)?;
+    let modulus = Modulus::try_from(h.modulus)?;
     if outside(1, refusal::MOST_HOSTS, h.host) {
-        return Checked::Refused(refusal::HOST);
+        return Err(Refusal::Host);
     }
     if outside(1, refusal::MOST_SIZE, h.rows) | outside(1, refusal::MOST_SIZE, h.columns) {
-        return Checked::Refused(refusal::SIZE);
+        return Err(Refusal::Size);
     }
     if refusal::too_large(h.rows, h.columns) {
-        return Checked::Refused(refusal::BLOCK);
+        return Err(Refusal::Block);
     }
-    Checked::Fit(modulus)
+    Ok(modulus)
 }
 
 // Bytes 0 to 15 of a message with these fields.
 pub fn header_bytes(h: Header) -> [u8; HEADER_BYTES]
     ensures { result ≡ header h }
 {
-    let rows = h.rows;
-    let columns = h.columns;
-    let number = h.number;
+    let kind = h.kind.to_be_bytes();
+    let modulus = h.modulus.to_be_bytes();
+    let host = h.host.to_be_bytes();
+    let rows = h.rows.to_be_bytes();
+    let columns = h.columns.to_be_bytes();
+    let number = h.number.to_be_bytes();
     [
-        0x4D,
-        0x44,
-        0x4F,
-        0,
-        1,
-        low_byte(h.kind),
-        low_byte(h.modulus),
-        low_byte(h.host),
-        low_byte(rows / 256),
-        low_byte(rows),
-        low_byte(columns / 256),
-        low_byte(columns),
-        low_byte(number / 16777216),
-        low_byte(number / 65536),
-        low_byte(number / 256),
-        low_byte(number),
+        b'M', b'D', b'O', 0, 1, kind[3], modulus[3], host[3], rows[2], rows[3], columns[2],
+        columns[3], number[0], number[1], number[2], number[3],
     ]
 }
 
@@ -115,12 +108,12 @@ fn header_fields(message: &[u8]) -> Header
     ensures { result ≡ header_of message.now }
 {
     Header {
-        kind: message[5] as u32,
-        modulus: message[6] as u32,
-        host: message[7] as u32,
-        rows: pair(message[8], message[9]),
-        columns: pair(message[10], message[11]),
-        number: word(message[12], message[13], message[14], message[15]),
+        kind: u32::from(message[5]),
+        modulus: u32::from(message[6]),
+        host: u32::from(message[7]),
+        rows: u32::from(u16::from_be_bytes([message[8], message[9]])),
+        columns: u32::from(u16::from_be_bytes([message[10], message[11]])),
+        number: u32::from_be_bytes([message[12], message[13], message[14], message[15]]),
     }
 }
 
@@ -129,7 +122,7 @@ fn mark_test(message: &[u8]) -> bool
     requires { 16 ≤ length message.now }
     ensures { result ≡ differs (number_at message.now 0 3) mark }
 {
-    word(0, message[0], message[1], message[2]) != MARK
+    !message.starts_with(&MARK)
 }
 
 // The version is not 1.
@@ -137,30 +130,23 @@ fn version_test(message: &[u8]) -> bool
     requires { 16 ≤ length message.now }
     ensures { result ≡ differs (number_at message.now 3 2) version }
 {
-    let version = pair(message[3], message[4]);
-    match version {
-        1 => false,
-        0 | 2..=0xFFFF_FFFF => true,
-    }
+    u16::from_be_bytes([message[3], message[4]]) != VERSION
 }
 
-// Reads a message's header: its fields and their modulus, or the number of the first test that holds.
-pub fn read_header(message: &[u8]) -> Opened
+// Reads a message's header: its fields and their modulus.
+pub fn read_header(message: &[u8]) -> Result<(Header, Modulus), Refusal>
     ensures { result ≡ opened message.now }
 {
     if message.len() < HEADER_BYTES {
-        return Opened::Refused(refusal::SHORT);
+        return Err(Refusal::Short);
     }
     if mark_test(message) {
-        return Opened::Refused(refusal::MARK);
+        return Err(Refusal::Mark);
     }
     if version_test(message) {
-        return Opened::Refused(refusal::VERSION);
+        return Err(Refusal::Version);
     }
     let h = header_fields(message);
-    let checked = check_fields(h);
-    match checked {
-        Checked::Fit(modulus) => Opened::Fields(h, modulus),
-        Checked::Refused(number) => Opened::Refused(number),
-    }
+    let modulus = check_fields(h)?;
+    Ok((h, modulus))
 }
