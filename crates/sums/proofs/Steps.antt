@@ -4,18 +4,17 @@
 --   length_sums               as many as before
 --   sums_none, sums_more      no step, and one more
 --   row_entry                 the row that begins i strides into the source has its elements
---   rest_more                 what is left of the source after one more row, clipped at its end
---   rest_short                it is no longer than the source
+--   rest_more                 what is left of the source after one more row
 use mathlib.Core.Path.{◌≡◌, sym, ap, ◌∙◌}
 use mathlib.Core.List.{List}
-use Prim.Native.Nat.{ℕ, ◌+◌, ◌*◌, ◌%◌, ◌^◌, ◌-◌, ◌<◌, ◌≤◌, min}
+use Prim.Native.Nat.{ℕ, ◌+◌, ◌*◌, ◌%◌, ◌^◌, ◌<◌}
 use native.Mathlib.Numerals.{add-one}
 use native.Mathlib.Omega.{arith}
-use lib.ListN.{length, get_or, take, drop, length-drop}
+use lib.ListN.{length, get_or, drop}
 use lib.Seq.{get_or-drop, drop-drop, ext_get_or}
 use Rattle.algebra.specs.Lists.{tab, entry}
 use Rattle.algebra.specs.Sums.{sum}
-use Rattle.algebra.proofs.Lists.{length_tab, get_or_tab, rest_clipped}
+use Rattle.algebra.proofs.Lists.{length_tab, get_or_tab}
 use Rattle.algebra.proofs.Grids.{tab_cong}
 
 module _ (sums : List ℕ) (f : ℕ → ℕ → ℕ) where
@@ -52,14 +51,7 @@ unfolding entry
 row_entry source row stride i r weight j =
     ap (λ (x : ℕ). weight * x) (ap (λ (xs : List ℕ). get_or xs j 0) r ∙ get_or-drop (i * stride) source j 0)
 
-pub rest_more : (source rest : List ℕ) (i stride step : ℕ) → rest ≡ drop (i * stride) source → step ≡ min stride (length rest)
-    → take (length rest - step) (drop step rest) ≡ drop ((i + 1) * stride) source
-rest_more source rest i stride step e clipped =
+pub rest_more : (source rest next : List ℕ) (i stride : ℕ) → rest ≡ drop (i * stride) source → next ≡ drop stride rest → next ≡ drop ((i + 1) * stride) source
+rest_more source rest next i stride e more =
     let end : i * stride + stride ≡ (i + 1) * stride = omega arith in
-    rest_clipped rest stride step clipped
-    ∙ ap (drop stride) e
-    ∙ drop-drop stride (i * stride) source
-    ∙ ap (λ (k : ℕ). drop k source) end
-
-pub rest_short : (source rest : List ℕ) (i stride : ℕ) → rest ≡ drop (i * stride) source → length rest ≤ length source
-rest_short source rest i stride e = omega (arith, ap length e, length-drop (i * stride) source)
+    more ∙ ap (drop stride) e ∙ drop-drop stride (i * stride) source ∙ ap (λ (k : ℕ). drop k source) end

@@ -5,8 +5,8 @@
 ghost use Rattle.std.specs.Prelude.{◌≡◌, ◌*◌};
 ghost use Rattle.sums_folded.specs.Internal.{fold as contracts_fold, folded, paired_two, paired_added};
 
-use std::num::wrapping_add_u64;
-use words::{element_at, least, wide_product};
+use sums::next_rows;
+use words::wide_product;
 
 // A number in the base 2^31, its digits added.
 fn fold(n: u64) -> u64
@@ -19,20 +19,17 @@ fn fold(n: u64) -> u64
 fn pair_term(a: u32, x: u32, b: u32, y: u32) -> u64
     ensures { result ≡ folded (a * x) (b * y) }
 {
-    fold(wrapping_add_u64(wide_product(a, x), wide_product(b, y)))
+    fold(wide_product(a, x).wrapping_add(wide_product(b, y)))
 }
 
 // Adds two weights times their rows.
 fn add_two_rows(sums: &mut [u64], weight: u32, row: &[u32], second: u32, next: &[u32])
     ensures { sums.new ≡ paired_two folded sums.old weight row.now second next.now }
 {
-    let mut j = 0;
-    while j < sums.len() {
-        sums[j] = wrapping_add_u64(
-            sums[j],
-            pair_term(weight, element_at(row, j), second, element_at(next, j)),
-        );
-        j += 1;
+    for (j, sum) in sums.iter_mut().enumerate() {
+        let x = row.get(j).copied().unwrap_or(0);
+        let y = next.get(j).copied().unwrap_or(0);
+        *sum = sum.wrapping_add(pair_term(weight, x, second, y));
     }
 }
 
@@ -56,14 +53,10 @@ pub fn add_rows(sums: &mut [u64], weights: &[u32], source: &[u32], stride: usize
 {
     let pairs = weights.len() / 2;
     let mut rest = source;
-    let mut c = 0;
-    while c < pairs {
-        let step = least(stride, rest.len());
-        let next = &rest[step..];
-        let after = least(stride, next.len());
+    for c in 0..pairs {
+        let next = next_rows(rest, stride);
         add_pair(sums, weights[c * 2], rest, weights[c * 2 + 1], next);
-        rest = &next[after..];
-        c += 1;
+        rest = next_rows(next, stride);
     }
     if pairs * 2 < weights.len() {
         add_pair(sums, weights[pairs * 2], rest, 0, rest);

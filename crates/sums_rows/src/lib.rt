@@ -4,18 +4,15 @@
 ghost use Rattle.std.specs.Prelude.{◌≡◌, ◌≤◌, length};
 ghost use Rattle.sums_rows.specs.Internal.{plus, added};
 
-use std::num::wrapping_add_u64;
-use words::{least, wide_product};
+use sums::next_rows;
+use words::wide_product;
 
 // Adds weight times a row to the sums; the row may be longer than they are, or shorter.
 pub fn add_row(sums: &mut [u64], weight: u32, row: &[u32])
     ensures { sums.new ≡ plus sums.old weight row.now }
 {
-    let n = least(sums.len(), row.len());
-    let mut j = 0;
-    while j < n {
-        sums[j] = wrapping_add_u64(sums[j], wide_product(weight, row[j]));
-        j += 1;
+    for j in 0..sums.len().min(row.len()) {
+        sums[j] = sums[j].wrapping_add(wide_product(weight, row[j]));
     }
 }
 
@@ -25,11 +22,9 @@ fn add_two_rows(sums: &mut [u64], weight: u32, row: &[u32], second: u32, next: &
     requires { (length sums.old ≤ length row.now) × (length sums.old ≤ length next.now) }
     ensures { sums.new ≡ plus (plus sums.old weight row.now) second next.now }
 {
-    let mut j = 0;
-    while j < sums.len() {
-        let sum = wrapping_add_u64(sums[j], wide_product(weight, row[j]));
-        sums[j] = wrapping_add_u64(sum, wide_product(second, next[j]));
-        j += 1;
+    for (j, sum) in sums.iter_mut().enumerate() {
+        let once = sum.wrapping_add(wide_product(weight, row[j]));
+        *sum = once.wrapping_add(wide_product(second, next[j]));
     }
 }
 
@@ -49,20 +44,14 @@ pub fn add_pair(sums: &mut [u64], weight: u32, row: &[u32], second: u32, next: &
 pub fn add_rows(sums: &mut [u64], weights: &[u32], source: &[u32], stride: usize)
     ensures { sums.new ≡ added sums.old weights.now source.now stride }
 {
+    let pairs = weights.len() / 2;
     let mut rest = source;
-    let mut i = 0;
-    while i < weights.len() {
-        let step = least(stride, rest.len());
-        let next = &rest[step..];
-        if weights.len() - i < 2 {
-            add_row(sums, weights[i], rest);
-            rest = next;
-            i += 1;
-        } else {
-            add_pair(sums, weights[i], rest, weights[i + 1], next);
-            let step = least(stride, next.len());
-            rest = &next[step..];
-            i += 2;
-        }
+    for c in 0..pairs {
+        let next = next_rows(rest, stride);
+        add_pair(sums, weights[c * 2], rest, weights[c * 2 + 1], next);
+        rest = next_rows(next, stride);
+    }
+    if pairs * 2 < weights.len() {
+        add_row(sums, weights[pairs * 2], rest);
     }
 }

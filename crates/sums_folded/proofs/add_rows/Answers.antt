@@ -1,6 +1,6 @@
 -- `sums_folded::add_rows` meets its contract.
-use Rattle.std.proofs.Common.{◌≡◌, ℕ, ◌+◌, ◌-◌, ◌*◌, ◌/◌, length, get_or, take, drop, ap, ◌∙◌, arith}
-use Rattle.sums.proofs.Steps.{sums_to, length_sums, sums_none, row_entry, rest_more, rest_short}
+use Rattle.std.proofs.Common.{◌≡◌, ℕ, ◌+◌, ◌*◌, ◌/◌, length, get_or, drop, ap, ◌∙◌, arith}
+use Rattle.sums.proofs.Steps.{sums_to, length_sums, sums_none, row_entry, rest_more}
 use Rattle.sums_folded.specs.Internal.{folded, paired_two}
 use Rattle.sums_folded.proofs.Steps.{pairs_more, pairs_last, row_product, all_pairs}
 use Rattle.sums_folded.proofs.add_rows.Invariants.{terms}
@@ -14,71 +14,16 @@ loop-c-init c =
     record {
       is = sums_none a.sums.now (terms a.weights.now a.source.now a.stride) (λ j l. (c.type_inv.sums j).fits);
       row = ap (λ (k : ℕ). drop k a.source.now) start;
-      short = omega arith;
-      few = omega arith;
     }
-
-pub offset_bounds-rest-step : goal.offset_bounds-rest-step
-offset_bounds-rest-step c = omega arith
-
-pub slice_bounds-next-count : goal.slice_bounds-next-count
-slice_bounds-next-count c = omega arith
-
-pub slice_bounds-next-start : goal.slice_bounds-next-start
-slice_bounds-next-start c = omega arith
-
-pub slice_bounds-next-end : goal.slice_bounds-next-end
-slice_bounds-next-end c = omega arith
-
-pub overflow_mul-c : goal.overflow_mul-c
-overflow_mul-c c = omega arith
-
-pub offset_bounds-weights-c : goal.offset_bounds-weights-c
-offset_bounds-weights-c c = omega arith
-
-pub bounds-weights-c : goal.bounds-weights-c
-bounds-weights-c c = omega arith
-
-pub overflow_mul-c-in-loop-c : goal.overflow_mul-c-in-loop-c
-overflow_mul-c-in-loop-c c = omega arith
-
-pub overflow_add-c : goal.overflow_add-c
-overflow_add-c c = omega arith
-
-pub offset_bounds-weights-c-in-loop-c : goal.offset_bounds-weights-c-in-loop-c
-offset_bounds-weights-c-in-loop-c c = omega arith
-
-pub bounds-weights-c-in-loop-c : goal.bounds-weights-c-in-loop-c
-bounds-weights-c-in-loop-c c = omega arith
-
-pub offset_bounds-next-after : goal.offset_bounds-next-after
-offset_bounds-next-after c = omega arith
-
-pub slice_bounds-rest-count : goal.slice_bounds-rest-count
-slice_bounds-rest-count c = omega arith
-
-pub slice_bounds-rest-start : goal.slice_bounds-rest-start
-slice_bounds-rest-start c = omega arith
-
-pub slice_bounds-rest-end : goal.slice_bounds-rest-end
-slice_bounds-rest-end c = omega arith
-
-pub overflow_add-c-in-loop-c : goal.overflow_add-c-in-loop-c
-overflow_add-c-in-loop-c c = omega arith
-
-pub loop-c-smaller : goal.loop-c-smaller
-loop-c-smaller c = omega arith
 
 pub loop-c-preserved : goal.loop-c-preserved
 loop-c-preserved c =
     let a = c.args in
     let l = c.loop-c in
-    let step = c.least-step in
-    let step2 = c.least-after in
     let pair = c.add_pair in
-    let next = take (length l.rest.now - step.result) (drop step.result l.rest.now) in
-    let second = rest_more a.source.now l.rest.now (l.c * 2) a.stride step.result l.invariant.row step.ensures in
-    let third = rest_more a.source.now next (l.c * 2 + 1) a.stride step2.result second step2.ensures in
+    let next = c.next_rows-next.result.now in
+    let second = rest_more a.source.now l.rest.now next (l.c * 2) a.stride l.invariant.row c.next_rows-next.ensures in
+    let third = rest_more a.source.now next c.next_rows-rest.result.now (l.c * 2 + 1) a.stride second c.next_rows-rest.ensures in
     let two : l.c * 2 + 1 + 1 ≡ (l.c + 1) * 2 = omega arith in
     let product = row_entry a.source.now in
     record {
@@ -88,21 +33,7 @@ loop-c-preserved c =
           _ _ (product l.rest.now a.stride (l.c * 2) l.invariant.row (get_or a.weights.now (l.c * 2) 0))
           (omega arith) _ _ (product next a.stride (l.c * 2 + 1) second (get_or a.weights.now (l.c * 2 + 1) 0));
       row = third ∙ ap (λ (n : ℕ). drop (n * a.stride) a.source.now) two;
-      short = rest_short a.source.now _ (l.c * 2 + 1 + 1) a.stride third;
-      few = omega arith;
     }
-
-pub overflow_mul-pairs : goal.overflow_mul-pairs
-overflow_mul-pairs c = omega arith
-
-pub overflow_mul-pairs-then-pairs-weights : goal.overflow_mul-pairs-then-pairs-weights
-overflow_mul-pairs-then-pairs-weights c = omega arith
-
-pub offset_bounds-weights-pairs : goal.offset_bounds-weights-pairs
-offset_bounds-weights-pairs c = omega arith
-
-pub bounds-weights-pairs : goal.bounds-weights-pairs
-bounds-weights-pairs c = omega arith
 
 -- the sums after an odd last row
 last : (c : After-add_pair-then-pairs-weights)

@@ -1,7 +1,7 @@
 -- `sums_folded::add_rows` meets its contract.
 use Rattle.sums_folded.proofs.Steps.{pair_terms, row_product}
 use Rattle.sums_folded.specs.Internal.{folded}
-use Rattle.std.proofs.Common.{◌≡◌, ◌-◌, ◌*◌, ◌≤◌, length, drop, ℕ, List}
+use Rattle.std.proofs.Common.{◌≡◌, ◌*◌, length, drop, ℕ, List}
 use Rattle.sums.proofs.Steps.{sums_to}
 use Rattle.sums_folded.proofs.add_rows.Given as goal
 
@@ -14,9 +14,4 @@ invariant-loop-c l =
     record {
       is : l.sums ≡ sums_to l.initial.sums (terms l.weights l.source l.stride) l.c;
       row : l.rest ≡ drop (l.c * 2 * l.stride) l.source;
-      short : length l.rest ≤ length l.source;
-      few : l.c ≤ l.pairs;
     }
-
-abbrev pub decreases-loop-c : goal.decreases-loop-c
-decreases-loop-c l = l.pairs - l.c
