@@ -10,7 +10,7 @@ use mathlib.Core.Bool.{false, not, ◌||◌, true≢false}
 use mathlib.Core.Logic.{⊎_elim}
 use mathlib.Core.List.{List, ◌∷◌, ◌++◌, append_assoc}
 use Prim.Native.Nat.{ℕ, zero, suc, ◌*◌, ◌%◌, ◌<◌, ◌≤◌}
-use native.Mathlib.Nat.{suc-ne-zero, not-suc-le-zero, eq-or-lt_of_le, le_of_suc-le-suc}
+use native.Mathlib.Nat.{not-suc-le-zero, eq-or-lt_of_le, le_of_suc-le-suc}
 use native.Mathlib.Omega.{arith}
 use lib.Dec.{eqb, leb}
 use lib.ListN.{length, get_or, take}
@@ -18,14 +18,16 @@ use borrow.Author.Tests.{ltb-false, leb-false, eqb-false}
 use Rattle.algebra.specs.Lists.{AllBelow, Distinct}
 use Rattle.algebra.proofs.Orders.{le_or_lt}
 use Rattle.algebra.proofs.Tests.{or_left, or_right, or_all, equal}
-use Rattle.refusal.specs.Chain.{Test, first, outcome, outside}
+use Rattle.std.specs.Prelude.{Ok}
+use Rattle.refusal.specs.Numbers.{refusal_of, sheet}
+use Rattle.refusal.specs.Chain.{Test, first, outcome, answered, refuse, outside}
 use Rattle.refusal.proofs.Chains.{first_clear, first_append_clear, first_append_hit, numbered, inside_low, inside_high}
+use Rattle.refusal.proofs.Answered.{is_done}
 use Rattle.refusal.proofs.Limits.{blocks_fit}
 use Rattle.field.specs.Modulus.{no_modulus}
 use Rattle.field.proofs.Moduli.{Known, known_number}
 use Rattle.plan.specs.declared.Job.{Job}
 use Rattle.plan.specs.declared.Plan.{Plan}
-use Rattle.plan.specs.declared.Planned.TheVariants.{Accepted, Refused}
 use Rattle.plan.specs.Planning.{prime, block_rows, block_inner, block_columns, needed_of, plan_of, range_tests, window_test, fit_tests, member, point_tests_at, all_point_tests, point_tests, plan_tests, planned}
 use Rattle.plan.proofs.Ranges.{Ranged, ranged}
 use Rattle.plan.proofs.Points.{member_at, points_numbered}
@@ -120,7 +122,7 @@ module _ (q : ℕ) (points : List ℕ) where
 
 module _ (job : Job) (points : List ℕ) where
   pub facts : first (plan_tests job points) ≡ 0 → Facts job points
-  unfolding plan_tests point_tests range_tests fit_tests numbered
+  unfolding plan_tests point_tests range_tests fit_tests numbered refusal_of sheet
   facts e =
       let modulus = first_clear (no_modulus job.modulus) 0 _ e in
       let range = first_append_clear (range_tests job) (fit_tests job ++ point_tests (prime job) job.hosts points) tt modulus.1 in
@@ -137,14 +139,9 @@ module _ (job : Job) (points : List ℕ) where
             (λ (k : j < i). absurd (apart (prime job) points j i (one i hi) k hi (sym s))) (le_or_lt i j);
       }
 
-  pub planned_facts : {plan : Plan} → planned job points ≡ Accepted plan → (first (plan_tests job points) ≡ 0) × (plan ≡ plan_of job)
-  unfolding planned outcome
-  planned_facts {plan} e = go (first (plan_tests job points)) refl e
-    where
-      go : (n : ℕ) → first (plan_tests job points) ≡ n → outcome n (Accepted (plan_of job)) Refused ≡ Accepted plan
-          → (first (plan_tests job points) ≡ 0) × (plan ≡ plan_of job)
-      go zero is e = (is, cc)
-      go (suc n) is e = let z : ◌≡◌ {A = ℕ} 1 0 = cc in absurd (suc-ne-zero 0 z)
+  pub planned_facts : {plan : Plan} → planned job points ≡ Ok plan → (first (plan_tests job points) ≡ 0) × (plan ≡ plan_of job)
+  unfolding planned
+  planned_facts {plan} e = is_done (plan_tests job points) (plan_of job) plan (sym e)
 
 -- the tests 1 to 8, and 29
 fronts : Job → List Test
@@ -157,15 +154,15 @@ fronts_first job points =
     (sym (append_assoc (range_tests job) (fit_tests job) (point_tests (prime job) job.hosts points)))
 
 too_many : (job : Job) → 64 < job.hosts → first (fronts job) ≡ 0 → ⊥
-unfolding fronts range_tests fit_tests numbered
+unfolding fronts range_tests fit_tests numbered refusal_of sheet
 too_many job h e =
     let modulus = first_clear (no_modulus job.modulus) 0 _ e in
     let range = first_append_clear (range_tests job) (fit_tests job) tt modulus.1 in
     omega (arith, (fits_of job modulus.0 range.0 range.1).hosts_high)
 
 pub points_unseen : (job : Job) (xs ys : List ℕ) → 64 < job.hosts → planned job xs ≡ planned job ys
-unfolding planned
-points_unseen job xs ys h = ap (λ (n : ℕ). outcome n (Accepted (plan_of job)) Refused) (told xs ∙ sym (told ys))
+unfolding planned answered
+points_unseen job xs ys h = ap (λ (n : ℕ). outcome n (Ok (plan_of job)) refuse) (told xs ∙ sym (told ys))
   where
     told : (zs : List ℕ) → first (plan_tests job zs) ≡ first (fronts job)
     told zs = ap first (fronts_first job zs) ∙ first_append_hit (fronts job) _ (first (fronts job)) (too_many job h) refl

@@ -1,5 +1,6 @@
 -- Laws of planning.
 pub mod Examples
+pub mod Tested
 pub mod Ranges
 pub mod Points
 pub mod Outcomes

@@ -19,6 +19,7 @@ use lib.Dec.{T, eqb}
 use lib.ListN.{length, get_or, take}
 use borrow.Author.Tests.{eq-eqb, ne_eqb}
 use Rattle.algebra.proofs.Tests.{or_true, or_false, or_assoc}
+use Rattle.refusal.specs.Numbers.{refusal_of, sheet}
 use Rattle.refusal.specs.Chain.{Test, first, except}
 use Rattle.refusal.proofs.Chains.{first_hit, first_miss, numbered, numbered_append, first_append, first_append_hit}
 use Rattle.refusal.proofs.Except.{except_append}
@@ -42,7 +43,7 @@ member_more (y ∷ ys) (suc i) x h =
 
 module _ (q : ℕ) (points : List ℕ) where
   pub points_numbered : (n : ℕ) → T (numbered (all_point_tests q points n))
-  unfolding all_point_tests point_tests_at numbered
+  unfolding all_point_tests point_tests_at numbered refusal_of sheet
   points_numbered zero = tt
   points_numbered (suc n) = numbered_append (all_point_tests q points n) (point_tests_at q points n) (points_numbered n) tt
 

@@ -8,25 +8,26 @@
 use mathlib.Core.Path.{◌≡◌, refl, sym, ap, ◌∙◌}
 use mathlib.Core.Bool.{false, true≢false}
 use mathlib.Core.List.{List, ◌∷◌, ◌++◌}
-use Prim.Native.Nat.{ℕ, zero, suc}
-use native.Mathlib.Nat.{suc-ne-zero}
+use Prim.Native.Nat.{ℕ}
 use lib.Dec.{T}
 use lib.ListN.{length}
-use Rattle.refusal.specs.Chain.{Test, first, except, outcome, differs}
-use Rattle.refusal.proofs.Chains.{first_append, first_append_hit, numbered}
-use Rattle.field.specs.declared.Named.{Named}
-use Rattle.field.specs.declared.Named.TheVariants.{Is, Unknown}
+use Rattle.std.specs.Prelude.{Option, Some, None, Err}
+use Rattle.refusal.specs.declared.Refusal.{Refusal}
+use Rattle.refusal.specs.Numbers.{number as refusal_number, refusal_of, sheet}
+use Rattle.refusal.specs.Chain.{Test, first, except, differs}
+use Rattle.refusal.proofs.Chains.{numbered, first_numbered, first_append, first_append_hit}
+use Rattle.refusal.proofs.Answered.{is_refused}
+use Rattle.field.specs.declared.Modulus.{Modulus}
 use Rattle.field.specs.Modulus.{modulus, no_modulus, named, modulus_in}
 use Rattle.field.specs.Modulus.{prime as modulus_prime}
 use Rattle.field.proofs.Moduli.{none_named}
 use Rattle.field.proofs.Moduli.{known as moduli_known}
 use Rattle.plan.specs.declared.Job.{Job}
-use Rattle.plan.specs.declared.Planned.TheVariants.{Accepted, Refused}
 use Rattle.plan.specs.Planning.{prime, modulus_of, plan_of, range_tests, fit_tests, point_tests_at, point_tests, plan_tests, planned}
 use Rattle.plan.proofs.Points.{points_numbered, points_except}
 
 pub plan_numbered : (job : Job) (points : List ℕ) → T (numbered (plan_tests job points))
-unfolding plan_tests range_tests fit_tests point_tests numbered
+unfolding plan_tests range_tests fit_tests point_tests numbered refusal_of sheet
 plan_numbered job points = points_numbered (prime job) points _
 
 pub plan_except : (job : Job) (points : List ℕ)
@@ -40,16 +41,14 @@ plan_except job points =
     )
 
 module _ (job : Job) (points : List ℕ) (rows : List Test) where
-  pub then_refused : {n : ℕ} → planned job points ≡ Refused n → (first (plan_tests job points ++ rows) ≡ n) × (n ≡ 0 → ⊥)
-  unfolding planned outcome
-  then_refused {n} e = go (first (plan_tests job points)) refl e
-    where
-      go : (k : ℕ) → first (plan_tests job points) ≡ k → outcome k (Accepted (plan_of job)) Refused ≡ Refused n
-          → (first (plan_tests job points ++ rows) ≡ n) × (n ≡ 0 → ⊥)
-      go zero is e = let z : ◌≡◌ {A = ℕ} 1 0 = cc in absurd (suc-ne-zero 0 z)
-      go (suc k) is e =
-          let same : suc k ≡ n = cc in
-          (first_append_hit (plan_tests job points) rows n (λ z. suc-ne-zero k (same ∙ z)) (is ∙ same), λ z. suc-ne-zero k (same ∙ z))
+  pub then_refused : {r : Refusal} → planned job points ≡ Err r → (first (plan_tests job points ++ rows) ≡ refusal_number r) × (refusal_number r ≡ 0 → ⊥)
+  unfolding planned
+  then_refused {r} e =
+      let told = is_refused (plan_tests job points) (plan_of job) r (sym e) in
+      let same : refusal_number r ≡ first (plan_tests job points)
+      = ap refusal_number told.1 ∙ first_numbered (plan_tests job points) (plan_numbered job points) told.0 in
+      let ne : refusal_number r ≡ 0 → ⊥ = λ z. told.0 (sym same ∙ z) in
+      (first_append_hit (plan_tests job points) rows (refusal_number r) ne (sym same), ne)
 
   pub then_own : first (plan_tests job points) ≡ 0 → first (plan_tests job points ++ rows) ≡ first rows
   then_own e = first_append (plan_tests job points) rows (plan_numbered job points) e
@@ -58,6 +57,6 @@ pub own_prime : (job : Job) → no_modulus job.modulus ≡ false → modulus_pri
 unfolding modulus_of prime
 own_prime job e = go (named job.modulus) refl
   where
-    go : (x : Named) → named job.modulus ≡ x → modulus_prime (modulus_in x) ≡ modulus job.modulus
-    go (Is m) is = sym (moduli_known job.modulus is refl).is
-    go Unknown is = absurd (true≢false (sym (none_named job.modulus is) ∙ e))
+    go : (x : Option Modulus) → named job.modulus ≡ x → modulus_prime (modulus_in x) ≡ modulus job.modulus
+    go (Some m) is = sym (moduli_known job.modulus is refl).is
+    go None is = absurd (true≢false (sym (none_named job.modulus is) ∙ e))

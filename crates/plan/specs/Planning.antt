@@ -21,8 +21,10 @@
 --   table_for job         == the job's eleven public numbers, without its window
 --   table_job table       == the job of a table, with a window that no test of a plan sees
 --   unwindowed job       == the same job with that window
-use Rattle.std.specs.Prelude.{Bool, false, ◌&&◌, ◌||◌, List, [], ◌∷◌, ◌++◌, ℕ, zero, suc, ◌/◌, ◌%◌, leb, ltb, eqb, length, get_or, take}
-use Rattle.refusal.specs.Chain.{Test, first, outcome, Told, done, refused, outside, differs}
+use Rattle.std.specs.Prelude.{Bool, false, ◌&&◌, ◌||◌, List, [], ◌∷◌, ◌++◌, ℕ, zero, suc, ◌/◌, ◌%◌, leb, ltb, eqb, length, get_or, take, Result, Ok, Err}
+use Rattle.refusal.specs.declared.Refusal.{Refusal}
+use Rattle.refusal.specs.Numbers.{number as refusal_number}
+use Rattle.refusal.specs.Chain.{Test, answered, Told, done, refused, outside, differs}
 use Rattle.refusal.specs.Limits.{any_outside, sizes_outside, over_block}
 use Rattle.field.specs.declared.Modulus.{Modulus}
 use Rattle.field.specs.Modulus.{modulus, named, no_modulus, modulus_in}
@@ -32,8 +34,6 @@ use Rattle.layout.specs.Exponents.{exponents, number, choice}
 use Rattle.plan.specs.declared.Job.{Job}
 use Rattle.plan.specs.declared.Table.{Table}
 use Rattle.plan.specs.declared.Plan.{Plan}
-use Rattle.plan.specs.declared.Planned.{Planned}
-use Rattle.plan.specs.declared.Planned.TheVariants.{Accepted, Refused}
 
 unfoldable pub parameters : Job → Parameters
 parameters job = record { m = job.m; p = job.p; n = job.n; xa = job.xa; xb = job.xb }
@@ -117,15 +117,15 @@ plan_of job = record {
   needed = needed_of job;
 }
 
-unfoldable pub planned : Job → List ℕ → Planned
-planned job points = outcome (first (plan_tests job points)) (Accepted (plan_of job)) Refused
+unfoldable pub planned : Job → List ℕ → Result Plan Refusal
+planned job points = answered (plan_tests job points) (plan_of job)
 
 unfoldable pub plan_values : Job → List ℕ
 plan_values job = number (layout_of job) ∷ needed_of job ∷ block_rows job ∷ block_inner job ∷ block_columns job ∷ []
 
-abbrev pub told : Planned → Told ℕ
-told (Accepted plan) = done (number plan.layout ∷ plan.needed ∷ plan.rows ∷ plan.inner ∷ plan.columns ∷ [])
-told (Refused n) = refused n
+abbrev pub told : Result Plan Refusal → Told ℕ
+told (Ok plan) = done (number plan.layout ∷ plan.needed ∷ plan.rows ∷ plan.inner ∷ plan.columns ∷ [])
+told (Err r) = refused (refusal_number r)
 
 unfoldable pub table_for : Job → Table
 table_for job = record {

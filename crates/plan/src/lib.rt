@@ -1,8 +1,8 @@
 // Planning: a job's numbers and points are tested, and the layout and the number of answers needed are worked out.
 #![tactic(auto)]
 
-ghost use Rattle.std.specs.Prelude.{◌≡◌, ◌≤◌, length, take};
-ghost use Rattle.refusal.specs.Chain.{first};
+ghost use Rattle.std.specs.Prelude.{◌≡◌};
+ghost use Rattle.refusal.specs.Chain.{first, answered};
 ghost use Rattle.plan.specs.Planning.{
   parameters,
   prime,
@@ -15,9 +15,9 @@ ghost use Rattle.plan.specs.Planning.{
   table_job,
 };
 
-use field::{Modulus, Named};
+use field::Modulus;
 use layout::{Layout, Parameters};
-use refusal::{any_outside, outside, over_block, sizes_outside};
+use refusal::{Refusal, any_outside, outside, over_block, sizes_outside};
 
 // A job: eleven public numbers and a window. A is t by s and B is s by r; A is cut into m by p blocks, B into p by n; xa and xb
 // are the largest groups kept ignorant of A and of B; number is the job number. Answers are taken from the minute opening on and
@@ -40,6 +40,7 @@ pub struct Job {
 }
 
 // A job's public numbers without a window.
+// Stays: no part of Job, since `range_tests`, `Facts` and the like name `job.t`, and `table_job` says what each number becomes.
 #[derive(Clone, Copy)]
 pub struct Table {
     pub modulus: u32,
@@ -68,95 +69,86 @@ pub struct Plan {
     pub needed: u32,
 }
 
-// What planning returns.
-#[derive(Clone, Copy)]
-pub enum Planned {
-    Accepted(Plan),
-    Refused(u32),
-}
-
 // The largest numbers of cuts and of a group (01, "The job").
 const MOST_CUTS: u32 = 8;
 
 const MOST_GROUP: u32 = 16;
 
 // Tests 2 to 4: each number by itself.
-fn range_refusal(job: Job) -> u32
-    ensures { result ≡ first (range_tests job) }
+#[tactic(auto, using(crate::proofs::Tested::tested), unfolding(crate::specs::Planning::range_tests, refusal::specs::Numbers::refusal_of, refusal::specs::Numbers::sheet))]
+fn check_ranges(job: Job) -> Result<(), Refusal>
+    ensures { result ≡ answered (range_tests job) tt }
 {
     if sizes_outside(job.t, job.s, job.r) {
-        return refusal::SIZE;
+        return Err(Refusal::Size);
     }
     if any_outside(MOST_CUTS, job.m, job.p, job.n) {
-        return refusal::CUTS;
+        return Err(Refusal::Cuts);
     }
     if outside(1, MOST_GROUP, job.xa) | outside(1, MOST_GROUP, job.xb) {
-        return refusal::GROUPS;
+        return Err(Refusal::Groups);
     }
-    0
+    Ok(())
 }
 
 // Tests 5 to 8, and 29: the numbers together. q is the job's prime, and needed its number of answers needed.
-fn fit_refusal(job: Job, q: u32, needed: u32) -> u32
+#[tactic(auto, using(crate::proofs::Ranges::ranged))]
+fn check_fit(job: Job, q: u32, needed: u32) -> Result<(), Refusal>
     requires job_value { first (range_tests job) ≡ 0 }
     requires q_value { q ≡ prime job }
     requires needed_value { needed ≡ needed_of job }
-    ensures { result ≡ first (fit_tests job) }
+    ensures { result ≡ answered (fit_tests job) tt }
 {
     if (job.t % job.m != 0) | (job.s % job.p != 0) | (job.r % job.n != 0) {
-        return refusal::DIVISION;
+        return Err(Refusal::Division);
     }
     if over_block(job.t / job.m, job.s / job.p, job.r / job.n) {
-        return refusal::BLOCK;
+        return Err(Refusal::Block);
     }
     if outside(1, refusal::MOST_HOSTS, job.hosts) | (q <= job.hosts) {
-        return refusal::HOSTS;
+        return Err(Refusal::Hosts);
     }
     if job.hosts < needed {
-        return refusal::NEEDED;
+        return Err(Refusal::Needed);
     }
     if job.closing <= job.opening {
-        return refusal::WINDOW;
+        return Err(Refusal::Window);
     }
-    0
+    Ok(())
 }
 
-// Whether x stands among the first n of the points. The loop has no early end, so that several points can be compared at once.
-fn stands_before(points: &[u32], n: usize, x: u32) -> bool
-    requires { n ≤ length points.now }
-    ensures { result ≡ member x (take n points.now) }
+// Whether x stands among the points. The loop has no early end, so that several points can be compared at once.
+#[tactic(auto, using(crate::proofs::Points::member_more), unfolding(crate::specs::Planning::member))]
+fn stands_in(x: u32, points: &[u32]) -> bool
+    ensures { result ≡ member x points.now }
 {
     let mut found = false;
-    let mut i = 0;
-    while i < n {
-        found = found | (x == points[i]);
-        i += 1;
+    for y in points {
+        found = found | (x == *y);
     }
     found
 }
 
 // Tests 9 to 11: the points, one by one.
-fn point_refusal(q: u32, hosts: u32, points: &[u32]) -> u32
-    ensures { result ≡ first (point_tests q hosts points.now) }
+fn check_points(q: u32, hosts: u32, points: &[u32]) -> Result<(), Refusal>
+    ensures { result ≡ answered (point_tests q hosts points.now) tt }
 {
     if points.len() != hosts as usize {
-        return refusal::POINTS;
+        return Err(Refusal::Points);
     }
-    let mut i = 0;
-    while i < points.len() {
-        let x = points[i];
+    for (i, &x) in points.iter().enumerate() {
         if (x == 0) | (q <= x) {
-            return refusal::POINT;
+            return Err(Refusal::Point);
         }
-        if stands_before(points, i, x) {
-            return refusal::REPEATED_POINT;
+        if stands_in(x, &points[..i]) {
+            return Err(Refusal::RepeatedPoint);
         }
-        i += 1;
     }
-    0
+    Ok(())
 }
 
 // The job's cuts and group sizes, which are small once tests 3 and 4 have passed.
+#[tactic(auto, using(crate::proofs::Ranges::ranged), unfolding(crate::specs::Planning::parameters))]
 fn parameters_of(job: Job) -> Parameters
     requires { first (range_tests job) ≡ 0 }
     ensures { result ≡ parameters job }
@@ -170,30 +162,19 @@ fn parameters_of(job: Job) -> Parameters
     }
 }
 
-// Plans a job: its layout and the number of answers needed, or the number of the first test that fits.
-pub fn plan_job(job: Job, points: &[u32]) -> Planned
+// Plans a job: its layout and the number of answers needed, or the first refusal whose test fits.
+pub fn plan_job(job: Job, points: &[u32]) -> Result<Plan, Refusal>
     ensures { result ≡ planned job points.now }
 {
-    let Named::Is(modulus) = field::modulus_named(job.modulus) else {
-        return Planned::Refused(refusal::MODULUS);
-    };
-    let range = range_refusal(job);
-    if range != 0 {
-        return Planned::Refused(range);
-    }
+    let modulus = Modulus::try_from(job.modulus)?;
+    check_ranges(job)?;
     let g = parameters_of(job);
     let layout = layout::choose(g);
     let needed = layout::needed(layout, g);
     let q = field::prime_of(modulus);
-    let fit = fit_refusal(job, q, needed);
-    if fit != 0 {
-        return Planned::Refused(fit);
-    }
-    let point = point_refusal(q, job.hosts, points);
-    if point != 0 {
-        return Planned::Refused(point);
-    }
-    Planned::Accepted(Plan {
+    check_fit(job, q, needed)?;
+    check_points(q, job.hosts, points)?;
+    Ok(Plan {
         modulus,
         layout,
         parameters: g,
@@ -205,6 +186,8 @@ pub fn plan_job(job: Job, points: &[u32]) -> Planned
 }
 
 // The job of a table, with a window that no test of a plan sees: it opens at the minute 0 and closes at 1.
+// Stays: a `From` would not tell that a window is made up.
+#[tactic(auto, unfolding(crate::specs::Planning::table_job))]
 pub fn table_job(table: Table) -> Job
     ensures { result ≡ table_job table }
 {

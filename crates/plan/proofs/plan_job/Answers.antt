@@ -1,103 +1,92 @@
 -- `plan::plan_job` meets its contract.
-use mathlib.Core.Path.{◌≡◌, refl, sym, ap, ◌∙◌}
-use mathlib.Core.Bool.{false}
-use Prim.Native.Nat.{ℕ}
-use native.Mathlib.Nat.{suc-ne-zero}
-use native.Mathlib.Omega.{arith}
-use Rattle.refusal.specs.Chain.{first}
-use Rattle.field.specs.declared.Named.TheVariants.{Is}
-use Rattle.field.specs.Modulus.{no_modulus, named}
-use Rattle.field.proofs.Moduli.{none_named, known}
-use Rattle.plan.specs.Planning.{prime, range_tests, layout_of, needed_of, point_tests, plan_tests}
+use mathlib.Core.Path.{◌≡◌, sym, ap, ◌∙◌}
+use Rattle.std.specs.Prelude.{Ok}
+use Rattle.std.proofs.lemmas.Result.{err_from_is_err_and}
+use Rattle.refusal.specs.Chain.{answered}
+use Rattle.refusal.proofs.Answered.{is_done}
+use Rattle.field.proofs.Moduli.{known, is_named}
+use Rattle.plan.specs.Planning.{prime, modulus_of, range_tests, layout_of, needed_of}
 use Rattle.plan.proofs.Ranges.{Ranged, ranged}
-use Rattle.plan.proofs.Outcomes.{plan_modulus, plan_range, plan_fit, plan_points, refused, accepted, layout_is, needed_is}
+use Rattle.plan.proofs.Outcomes.{modulus_refused, range_refused, fit_refused, point_refused, accepted, layout_is, needed_is, plan_is}
 use Rattle.plan.proofs.plan_job.Goals as goal
-use Rattle.plan.proofs.plan_job.Goals.{After-point_refusal-point, After-prime_of-q, After-range_refusal-range}
+use Rattle.plan.proofs.plan_job.Goals.{In_ok-modulus, In_ok-check_ranges, In_ok-check_fit, After-prime_of-q}
 
-pub returns-in_default : goal.returns-in_default
-returns-in_default c =
-    let unknown = none_named c.args.job.modulus (sym c.modulus_named.ensures ∙ c.in_default.is) in
-    refused c.args.job c.args.points.now 1 (λ z. suc-ne-zero 0 z) (plan_modulus c.args.job c.args.points.now unknown)
+pub returns-in_err-modulus : goal.returns-in_err-modulus
+unfolding modulus_of
+returns-in_err-modulus c =
+    let p = err_from_is_err_and c.from_residual.result c.from_residual.ensures.1 in
+    rw (p.1, p.2) (modulus_refused _ _ _ (sym c.in_err-modulus.was ∙ c.try_from.ensures))
 
--- the job's modulus is named
-named-is : (c : After-range_refusal-range) → named c.args.job.modulus ≡ Is c.in-Is.modulus
-named-is c = sym c.modulus_named.ensures ∙ c.in-Is.is
+-- the numbers are in range
+in-range : (c : In_ok-check_ranges) → Ok tt ≡ answered (range_tests c.args.job) (tt {0})
+in-range c = sym c.in_ok-check_ranges.was ∙ c.check_ranges.ensures
 
-a-number : (c : After-range_refusal-range) → no_modulus c.args.job.modulus ≡ false
-a-number c = (known c.args.job.modulus (named-is c) refl).is_number
-
-pub returns-then-range-ne0 : goal.returns-then-range-ne0
-returns-then-range-ne0 c =
-    let r = c.range_refusal-range in
-    refused c.args.job c.args.points.now r.result c.if-range-ne0.true
-    (plan_range c.args.job c.args.points.now (a-number (goal.at.returns-then-range-ne0 c).After-range_refusal-range) r.result c.if-range-ne0.true (sym r.ensures))
+pub returns-in_err-check_ranges : goal.returns-in_err-check_ranges
+unfolding modulus_of
+returns-in_err-check_ranges c =
+    let r = c.from_residual-in_err-check_ranges in
+    let p = err_from_is_err_and r.result r.ensures.1 in
+    rw (p.1, p.2) (range_refused _ _ _ (sym c.in_ok-modulus.was ∙ c.try_from.ensures) _ (sym c.in_err-check_ranges.was ∙ c.check_ranges.ensures))
 
 pub parameters_of-g-requires : goal.parameters_of-g-requires
-parameters_of-g-requires c = sym c.range_refusal-range.ensures ∙ c.if-range-ne0.false
+parameters_of-g-requires c = (is_done _ tt tt (in-range c)).0
 
--- the ranges hold; the prime, the layout and K are the job's
-in-range : (c : After-prime_of-q) → first (range_tests c.args.job) ≡ 0
-in-range c = sym c.range_refusal-range.ensures ∙ c.if-range-ne0.false
-
+-- the prime, the layout and K are the job's
 prime-is : (c : After-prime_of-q) → c.prime_of-q.result ≡ prime c.args.job
 unfolding prime
-prime-is c = sym (known c.args.job.modulus (sym c.modulus_named.ensures ∙ c.in-Is.is) c.prime_of-q.ensures).is
+prime-is c =
+    let is = is_named c.args.job.modulus _ (sym c.in_ok-modulus.was ∙ c.try_from.ensures) in
+    sym (known c.args.job.modulus is c.prime_of-q.ensures).is
 
 chosen : (c : After-prime_of-q) → c.choose-layout.result ≡ layout_of c.args.job
-chosen c =
-    layout_is c.args.job
-    c.parameters_of-g.result c.parameters_of-g.ensures
-    c.choose-layout.result c.choose-layout.ensures
+chosen c = layout_is c.args.job _ c.parameters_of-g.ensures _ c.choose-layout.ensures
 
 enough : (c : After-prime_of-q) → c.needed-needed.result ≡ needed_of c.args.job
-enough c =
-    c.needed-needed.ensures
-    ∙ needed_is c.args.job
-    c.parameters_of-g.result c.parameters_of-g.ensures
-    c.choose-layout.result c.choose-layout.ensures
+enough c = c.needed-needed.ensures ∙ needed_is c.args.job _ c.parameters_of-g.ensures _ c.choose-layout.ensures
 
-pub fit_refusal-fit-requires : goal.fit_refusal-fit-requires
-fit_refusal-fit-requires c = record { job_value = in-range c; q_value = prime-is c; needed_value = enough c }
+pub check_fit-requires : goal.check_fit-requires
+check_fit-requires c =
+    record { job_value = (is_done _ tt tt (in-range (goal.at.check_fit-requires c).In_ok-check_ranges)).0; q_value = prime-is c; needed_value = enough c }
 
-pub returns-then-fit-ne0 : goal.returns-then-fit-ne0
-returns-then-fit-ne0 c =
-    let r = c.fit_refusal-fit in
-    let e = goal.at.returns-then-fit-ne0 c in
-    refused c.args.job c.args.points.now r.result c.if-fit-ne0.true
-    (plan_fit c.args.job c.args.points.now (a-number e.After-range_refusal-range)
-    (in-range e.After-prime_of-q) r.result c.if-fit-ne0.true (sym r.ensures))
+pub returns-in_err-check_fit : goal.returns-in_err-check_fit
+unfolding modulus_of
+returns-in_err-check_fit c =
+    let r = c.from_residual-in_err-check_fit in
+    let p = err_from_is_err_and r.result r.ensures.1 in
+    rw (p.1, p.2)
+    (fit_refused _ _ _ (sym c.in_ok-modulus.was ∙ c.try_from.ensures)
+    (in-range (goal.at.returns-in_err-check_fit c).In_ok-check_ranges) _ (sym c.in_err-check_fit.was ∙ c.check_fit.ensures))
 
--- what the points' tests tell is what the plan's tests tell
-decided : (c : After-point_refusal-point) → c.prime_of-q.result ≡ prime c.args.job → first (plan_tests c.args.job c.args.points.now) ≡ c.point_refusal-point.result
-decided c is =
-    plan_points c.args.job c.args.points.now (known c.args.job.modulus (sym c.modulus_named.ensures ∙ c.in-Is.is) refl).is_number
-    (sym c.range_refusal-range.ensures ∙ c.if-range-ne0.false)
-    (sym c.fit_refusal-fit.ensures ∙ c.if-fit-ne0.false)
-    ∙ ap (λ (q : ℕ). first (point_tests q c.args.job.hosts c.args.points.now)) (sym is)
-    ∙ sym c.point_refusal-point.ensures
-
-pub returns-then-point-ne0 : goal.returns-then-point-ne0
-returns-then-point-ne0 c =
-    let e = goal.at.returns-then-point-ne0 c in
-    refused c.args.job c.args.points.now c.point_refusal-point.result c.if-point-ne0.true
-    (decided e.After-point_refusal-point (prime-is e.After-prime_of-q))
+pub returns-in_err-check_points : goal.returns-in_err-check_points
+unfolding modulus_of
+returns-in_err-check_points c =
+    let e = goal.at.returns-in_err-check_points c in
+    let r = c.from_residual-in_err-check_points in
+    let p = err_from_is_err_and r.result r.ensures.1 in
+    rw (p.1, p.2)
+    (point_refused _ _ _ (sym c.in_ok-modulus.was ∙ c.try_from.ensures) (in-range e.In_ok-check_ranges)
+    (sym c.in_ok-check_fit.was ∙ c.check_fit.ensures) _
+    (rw (← prime-is e.After-prime_of-q) (sym c.in_err-check_points.was ∙ c.check_points.ensures)))
 
 -- the cuts are not 0
-cuts : (c : After-prime_of-q) → Ranged c.args.job
-cuts c = ranged c.args.job (in-range c)
+cuts : (c : In_ok-check_ranges) → Ranged c.args.job
+cuts c = ranged c.args.job (is_done _ tt tt (in-range c)).0
 
 pub nonzero_div-result : goal.nonzero_div-result
-nonzero_div-result c = let r = cuts (goal.at.nonzero_div-result c).After-prime_of-q in omega arith
+nonzero_div-result c = (cuts (goal.at.nonzero_div-result c).In_ok-check_ranges).m.low
 
 pub nonzero_div-result-2 : goal.nonzero_div-result-2
-nonzero_div-result-2 c = let r = cuts (goal.at.nonzero_div-result-2 c).After-prime_of-q in omega arith
+nonzero_div-result-2 c = (cuts (goal.at.nonzero_div-result-2 c).In_ok-check_ranges).p.low
 
 pub nonzero_div-result-3 : goal.nonzero_div-result-3
-nonzero_div-result-3 c = let r = cuts (goal.at.nonzero_div-result-3 c).After-prime_of-q in omega arith
+nonzero_div-result-3 c = (cuts (goal.at.nonzero_div-result-3 c).In_ok-check_ranges).n.low
 
 pub returns : goal.returns
+unfolding modulus_of
 returns c =
     let e = goal.at.returns c in
-    accepted c.args.job c.args.points.now c.in-Is.modulus c.choose-layout.result c.parameters_of-g.result c.needed-needed.result
-    (named-is e.After-range_refusal-range) (chosen e.After-prime_of-q) c.parameters_of-g.ensures (enough e.After-prime_of-q)
-    (decided e.After-point_refusal-point (prime-is e.After-prime_of-q) ∙ c.if-point-ne0.false)
+    let f = e.After-prime_of-q in
+    let modulus = sym c.in_ok-modulus.was ∙ c.try_from.ensures in
+    ap Ok (plan_is c.args.job _ _ _ _ (is_done _ _ _ modulus).1 (chosen f) c.parameters_of-g.ensures (enough f))
+    ∙ accepted _ _ _ modulus (in-range e.In_ok-check_ranges) (sym c.in_ok-check_fit.was ∙ c.check_fit.ensures)
+    (rw (← prime-is f) (sym c.in_ok-check_points.was ∙ c.check_points.ensures))
