@@ -7,7 +7,6 @@ ghost use Rattle.sums.specs.Internal.{reduced};
 ghost use Rattle.sums_packed.specs.Internal.{pair, packed, half, halves};
 
 use field::Modulus;
-use words::least;
 
 // The radix of a pair: what its second number is multiplied by. 127 products of numbers below 257 sum to less.
 const RADIX: u64 = 0x80_0000;
@@ -23,30 +22,24 @@ fn pair_of(first: u32, second: u32) -> u32
 pub fn pack(rows: &[u32], out: &mut [u32])
     ensures { out.new ≡ packed rows.now out.old }
 {
-    let second = rows.len() / 2;
-    let n = least(second, out.len());
-    let mut k = 0;
-    while k < n {
-        out[k] = pair_of(rows[k], rows[second + k]);
-        k += 1;
+    let (first, second) = rows.split_at(rows.len() / 2);
+    for k in 0..first.len().min(out.len()) {
+        out[k] = pair_of(first[k], second[k]);
     }
 }
 
 // The upper number of a pair, or the lower.
-fn half_of(upper: bool, sum: u64) -> u64
-    ensures { result ≡ half upper sum }
+fn half_of<const UPPER: bool>(sum: u64) -> u64
+    ensures { result ≡ half UPPER sum }
 {
-    if upper { sum / RADIX } else { sum % RADIX }
+    if UPPER { sum / RADIX } else { sum % RADIX }
 }
 
 // The upper halves of the sums, or the lower, modulo the prime, as many as have room in the output.
-pub fn unpack(modulus: Modulus, upper: bool, sums: &[u64], out: &mut [u32])
-    ensures { out.new ≡ reduced (prime modulus) (halves upper sums.now) out.old }
+pub fn unpack<const UPPER: bool>(modulus: Modulus, sums: &[u64], out: &mut [u32])
+    ensures { out.new ≡ reduced (prime modulus) (halves UPPER sums.now) out.old }
 {
-    let n = least(sums.len(), out.len());
-    let mut j = 0;
-    while j < n {
-        out[j] = field::reduce(modulus, half_of(upper, sums[j]));
-        j += 1;
+    for j in 0..sums.len().min(out.len()) {
+        out[j] = field::reduce(modulus, half_of::<UPPER>(sums[j]));
     }
 }

@@ -1,20 +1,12 @@
 -- `sums_modular::add_row` meets its contract.
-use mathlib.Core.Path.{sym, ap, ◌∙◌}
-use Prim.Native.Nat.{ℕ}
-use Rattle.field.specs.Modulus.{prime}
-use Rattle.sums_folded.specs.Internal.{paired_two}
+use mathlib.Core.Path.{sym, ◌∙◌}
 use Rattle.sums_modular.proofs.Picked.{when_large, when_small, one_plain}
 use Rattle.sums_modular.proofs.add_row.Goals as goal
 
 pub returns-then-is_large : goal.returns-then-is_large
-returns-then-is_large c =
-    let a = c.args in
-    c.add_pair.ensures
-    ∙ ap (λ (term : ℕ → ℕ → ℕ). paired_two term a.sums.now a.weight a.row.now 0 a.row.now) (sym (when_large (prime a.modulus) (sym c.is_large.ensures ∙ c.if-is_large.true)))
+returns-then-is_large c = rw (when_large _ (sym c.is_large.ensures ∙ c.if-is_large.true)) c.add_pair.ensures
 
 pub returns-else-is_large : goal.returns-else-is_large
 returns-else-is_large c =
     let a = c.args in
-    c.add_row.ensures
-    ∙ one_plain a.sums.now a.weight a.row.now
-    ∙ ap (λ (term : ℕ → ℕ → ℕ). paired_two term a.sums.now a.weight a.row.now 0 a.row.now) (sym (when_small (prime a.modulus) (sym c.is_large.ensures ∙ c.if-is_large.false)))
+    rw (when_small _ (sym c.is_large.ensures ∙ c.if-is_large.false)) (c.add_row.ensures ∙ one_plain a.sums.now a.weight a.row.now)

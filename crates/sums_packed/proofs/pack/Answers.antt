@@ -1,60 +1,32 @@
 -- `sums_packed::pack` meets its contract.
-use mathlib.Core.Path.{◌≡◌, refl, ap, ◌∙◌}
-use mathlib.Core.List.{◌++◌}
-use Prim.Native.Nat.{ℕ, ◌/◌, min}
+use mathlib.Core.Path.{◌≡◌, ap, ap₂, ◌∙◌}
+use mathlib.Core.List.{List, ◌++◌}
+use Prim.Native.Nat.{ℕ, ◌+◌, ◌/◌, min}
 use native.Mathlib.Omega.{arith}
-use lib.ListN.{length, drop, set, length-set}
+use lib.ListN.{length, get_or, drop, set}
+use lib.Seq.{get_or-take, get_or-drop}
 use Rattle.algebra.specs.Lists.{tab}
 use Rattle.algebra.proofs.Fronts.{front_none, front_more}
-use Rattle.sums_packed.specs.Internal.{packed}
+use Rattle.sums_packed.specs.Internal.{pair, packed}
 use Rattle.sums_packed.proofs.pack.Invariants.{at}
 use Rattle.sums_packed.proofs.pack.Goals as goal
 
 pub loop-k-init : goal.loop-k-init
-loop-k-init c = record { is = front_none _ c.args.out.now; short = omega arith; same = refl }
-
-pub offset_bounds-rows-k : goal.offset_bounds-rows-k
-offset_bounds-rows-k c = omega arith
-
-pub bounds-rows-k : goal.bounds-rows-k
-bounds-rows-k c = omega arith
-
-pub overflow_add-second : goal.overflow_add-second
-overflow_add-second c = omega arith
-
-pub offset_bounds-rows-second : goal.offset_bounds-rows-second
-offset_bounds-rows-second c = omega arith
-
-pub bounds-rows-second : goal.bounds-rows-second
-bounds-rows-second c = omega arith
-
-pub offset_bounds-out-k : goal.offset_bounds-out-k
-offset_bounds-out-k c = omega arith
-
-pub bounds-out-k : goal.bounds-out-k
-bounds-out-k c = omega arith
-
-pub overflow_add-k : goal.overflow_add-k
-overflow_add-k c = omega arith
-
-pub loop-k-smaller : goal.loop-k-smaller
-loop-k-smaller c = omega arith
+loop-k-init c = front_none _ c.args.out.now
 
 pub loop-k-preserved : goal.loop-k-preserved
 loop-k-preserved c =
     let a = c.args in
-    record {
-      is = ap (set c.loop-k.out c.loop-k.k) c.pair_of.ensures ∙ front_more (at a.rows.now) a.out.now c.loop-k.out c.loop-k.k (omega arith) c.loop-k.invariant.is;
-      short = omega arith;
-      same = simp length-set c.loop-k.invariant.same;
-    }
-
-pub shape_of-out : goal.shape_of-out
-shape_of-out c = c.loop-k.invariant.same
+    let l = c.loop-k in
+    let first : get_or c.split_at.result.0.now l.k 0 ≡ get_or a.rows.now l.k 0
+    = ap (λ (xs : List ℕ). get_or xs l.k 0) c.split_at.ensures.front ∙ get_or-take (length a.rows.now / 2) a.rows.now l.k 0 (omega arith) in
+    let second : get_or c.split_at.result.1.now l.k 0 ≡ get_or a.rows.now (length a.rows.now / 2 + l.k) 0
+    = ap (λ (xs : List ℕ). get_or xs l.k 0) c.split_at.ensures.back ∙ get_or-drop (length a.rows.now / 2) a.rows.now l.k 0 in
+    ap (set l.out l.k) (c.pair_of.ensures ∙ ap₂ pair first second) ∙ front_more (at a.rows.now) a.out.now l.out l.k (omega arith) l.invariant
 
 pub returns : goal.returns
 unfolding packed
 returns c =
     let a = c.args in
-    let all : c.loop-k.k ≡ min (length a.rows.now / 2) (length a.out.now) = omega (arith, c.least-n.ensures) in
-    c.loop-k.invariant.is ∙ ap (λ (n : ℕ). tab (at a.rows.now) n ++ drop n a.out.now) all
+    let all : c.loop-k.k ≡ min (length a.rows.now / 2) (length a.out.now) = omega arith in
+    c.loop-k.invariant ∙ ap (λ (n : ℕ). tab (at a.rows.now) n ++ drop n a.out.now) all
