@@ -2,23 +2,25 @@
 --
 --   residue_below                           a remainder by the prime is below it
 --   length_coefficients, get_or_coefficients  the first n coefficients have their number, and their elements
+--   one_is                                  zeros with 1 at the front are the coefficients of 1
+--   all_passed                              what a loop from the end has passed is all, where nothing is left
 --   product_none, product_more              the product of no roots, and of one more
 --   after                                   what a quotient has at e
 --   after_none, after_more                  past the last coefficient, and one before
---   scale_none, scale_skip, scale_more      the scale over no points, with x itself more, and with another point more
+--   scale_skip, scale_more                  the scale with x itself more, and with another point more
 use mathlib.Core.Path.{◌≡◌, sym, ap, ◌∙◌}
-use mathlib.Core.List.{List, [], ◌∷◌}
+use mathlib.Core.List.{List, [], ◌∷◌, ◌++◌}
 use Prim.Native.Nat.{ℕ, zero, suc, ◌+◌, ◌-◌, ◌*◌, ◌%◌, ◌<◌, ◌≤◌}
 use native.Mathlib.Nat.{mod-lt, mod-eq_of_lt, zero-mod}
 use native.Mathlib.Omega.{arith}
-use lib.ListN.{length, get_or, take, drop, length-take, drop_of_length-le}
-use lib.Seq.{drop-length, get_or-take}
+use lib.ListN.{length, get_or, take, drop, set, replicate, length-take, length-set, length-replicate, get_or-replicate, drop_of_length-le}
+use lib.Seq.{ext_get_or, get_or-take}
 use borrow.Author.Tests.{eq-eqb, ne_eqb}
+use Rattle.std.proofs.Common.{get_or-set_same, get_or-set_other}
 use Rattle.algebra.specs.Lists.{tab}
 use Rattle.algebra.specs.Modular.{⟨◌⟩◌≈◌, inverse}
 use Rattle.algebra.specs.Polynomials.{ev, add_root}
 use Rattle.algebra.proofs.Lists.{length_tab, get_or_tab}
-use Rattle.algebra.proofs.Fronts.{drop_back}
 use Rattle.algebra.proofs.Grids.{tab_cong}
 use Rattle.algebra.proofs.Modular.{≈_refl, ≈_trans, ≈_of_eq, ≈_mod, ≈_add, ≈_scale}
 use Rattle.algebra.proofs.Division.{get_or_add_root, ev_drop}
@@ -40,10 +42,25 @@ pub get_or_coefficients : (q : ℕ) (cs : List ℕ) (n e : ℕ) → e < n → ge
 unfolding coefficients
 get_or_coefficients q cs n e h = get_or_tab _ n e 0 h
 
-module _ (q : ℕ) (points : List ℕ) (n : ℕ) where
-  pub product_none : 1 < q → tab (λ e. get_or (1 ∷ []) e 0) n ≡ coefficients q (root_product q (drop (length points) points)) n
+pub one_is : (n : ℕ) → set {A = ℕ} (replicate n 0) 0 1 ≡ tab (λ e. get_or (1 ∷ []) e 0) n
+one_is n =
+    let zeros : List ℕ = replicate n 0 in
+    let long : length (set zeros 0 1) ≡ n = length-set zeros 0 1 ∙ length-replicate n 0 in
+    ext_get_or 0 (set zeros 0 1) (tab (λ e. get_or (1 ∷ []) e 0) n) (long ∙ sym (length_tab _ n))
+    (λ e h. let l : e < n = omega (arith, long) in each e l ∙ sym (get_or_tab _ n e 0 l))
+  where
+    each : (e : ℕ) → e < n → get_or (set {A = ℕ} (replicate n 0) 0 1) e 0 ≡ get_or (1 ∷ []) e 0
+    each zero l = get_or-set_same (replicate n 0) 0 1 0 (omega (arith, length-replicate {A = ℕ} n 0))
+    each (suc e) l = get_or-set_other (replicate n 0) 0 (suc e) 1 0 (λ z. omega arith) ∙ get_or-replicate n (suc e) 0 0 l
+
+pub all_passed : (xs rest passed : List ℕ) → xs ≡ rest ++ passed → length rest ≡ 0 → passed ≡ xs
+all_passed xs [] passed e none = sym e
+all_passed xs (x ∷ rest) passed e none = absurd (omega arith)
+
+module _ (q n : ℕ) where
+  pub product_none : 1 < q → tab (λ e. get_or (1 ∷ []) e 0) n ≡ coefficients q (root_product q []) n
   unfolding coefficients root_product
-  product_none above = rw (drop-length points) (tab_cong _ _ n (λ e l. one e))
+  product_none above = tab_cong _ _ n (λ e l. one e)
     where
       one : (e : ℕ) → get_or (1 ∷ []) e 0 ≡ get_or (1 ∷ []) e 0 % q
       one zero = sym (mod-eq_of_lt above)
@@ -62,15 +79,14 @@ module _ (q : ℕ) (points : List ℕ) (n : ℕ) where
       before zero l = ≈_refl 0
       before (suc e) l = same e (omega arith)
 
-  pub product_more : (cs : List ℕ) (i : ℕ) → 0 < i → i ≤ length points → cs ≡ coefficients q (root_product q (drop i points)) n
-      → coefficients q (add_root (q - get_or points (i - 1) 0 % q) cs) (length cs) ≡ coefficients q (root_product q (drop (i - 1) points)) n
+  pub product_more : (cs ys : List ℕ) (y : ℕ) → cs ≡ coefficients q (root_product q ys) n
+      → coefficients q (add_root (q - y % q) cs) (length cs) ≡ coefficients q (root_product q (y ∷ ys)) n
   unfolding coefficients root_product
-  product_more cs i pos h is =
-      let ds = root_product q (drop i points) in
-      let c = q - get_or points (i - 1) 0 % q in
-      rw (drop_back points i pos h)
-      (ap (coefficients q (add_root c cs)) (ap length is ∙ length_coefficients q ds n)
-      ∙ tab_cong _ _ n (λ e l. (root c cs ds is e l).same))
+  product_more cs ys y is =
+      let ds = root_product q ys in
+      let c = q - y % q in
+      ap (coefficients q (add_root c cs)) (ap length is ∙ length_coefficients q ds n)
+      ∙ tab_cong _ _ n (λ e l. (root c cs ds is e l).same)
 
 -- ---- quotients
 
@@ -97,17 +113,11 @@ module _ (q x : ℕ) (cs : List ℕ) (n : ℕ) where
 
 -- ---- scales
 
-module _ (q x : ℕ) (points : List ℕ) where
-  pub scale_none : 1 ≡ basis_scale q x (drop (length points) points)
+module _ (q x y : ℕ) (ys : List ℕ) where
+  pub scale_skip : x % q ≡ y % q → basis_scale q x ys ≡ basis_scale q x (y ∷ ys)
   unfolding basis_scale
-  scale_none = rw (drop-length points)
+  scale_skip e = rw (eq-eqb (x % q) (y % q) e)
 
-  module _ (i : ℕ) (pos : 0 < i) (h : i ≤ length points) where
-    pub scale_skip : x % q ≡ get_or points (i - 1) 0 % q → basis_scale q x (drop i points) ≡ basis_scale q x (drop (i - 1) points)
-    unfolding basis_scale
-    scale_skip e = rw (drop_back points i pos h, eq-eqb (x % q) (get_or points (i - 1) 0 % q) e)
-
-    pub scale_more : (x % q ≡ get_or points (i - 1) 0 % q → ⊥)
-        → inverse q (x % q + (q - get_or points (i - 1) 0 % q)) * basis_scale q x (drop i points) % q ≡ basis_scale q x (drop (i - 1) points)
-    unfolding basis_scale
-    scale_more ne = rw (drop_back points i pos h, ne_eqb (x % q) (get_or points (i - 1) 0 % q) ne)
+  pub scale_more : (x % q ≡ y % q → ⊥) → inverse q (x % q + (q - y % q)) * basis_scale q x ys % q ≡ basis_scale q x (y ∷ ys)
+  unfolding basis_scale
+  scale_more ne = rw (ne_eqb (x % q) (y % q) ne)

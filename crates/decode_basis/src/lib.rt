@@ -8,18 +8,15 @@ ghost use Rattle.field.specs.Modulus.{prime};
 ghost use Rattle.decode_basis.specs.Internal.{coefficients, root_product, quotient, basis_scale};
 
 use field::Modulus;
-use words::{element_at, wide_product};
+use words::wide_product;
 
 // The polynomial 1, in as many coefficients as have room.
 fn set_one(out: &mut [u32])
     ensures { out.new ≡ tab (λ e. get_or (1 ∷ []) e 0) (length out.old) }
 {
-    let mut value = 1;
-    let mut e = 0;
-    while e < out.len() {
-        out[e] = value;
-        value = 0;
-        e += 1;
+    out.fill(0);
+    if let Some(first) = out.first_mut() {
+        *first = 1;
     }
 }
 
@@ -38,12 +35,10 @@ fn times_root(modulus: Modulus, y: u32, cs: &mut [u32])
     let root = field::reduce(modulus, y as u64);
     let minus = field::prime_of(modulus) - root;
     let mut before = 0;
-    let mut e = 0;
-    while e < cs.len() {
-        let here = cs[e];
-        cs[e] = plus_product(modulus, before, minus, here);
+    for c in cs.iter_mut() {
+        let here = *c;
+        *c = plus_product(modulus, before, minus, here);
         before = here;
-        e += 1;
     }
 }
 
@@ -53,10 +48,8 @@ pub fn from_roots(modulus: Modulus, points: &[u32], out: &mut [u32])
         ≡ coefficients (prime modulus) (root_product (prime modulus) points.now) (length out.old) }
 {
     set_one(out);
-    let mut i = points.len();
-    while 0 < i {
-        i -= 1;
-        times_root(modulus, points[i], out);
+    for y in points.iter().rev() {
+        times_root(modulus, *y, out);
     }
 }
 
@@ -66,10 +59,9 @@ pub fn divide_root(modulus: Modulus, cs: &[u32], x: u32, out: &mut [u32])
     ensures { out.new ≡ quotient (prime modulus) x cs.now (length out.old) }
 {
     let mut value = 0;
-    let mut e = out.len();
-    while 0 < e {
-        value = plus_product(modulus, element_at(cs, e), x, value);
-        e -= 1;
+    for e in (0..out.len()).rev() {
+        let next = cs.get(e + 1).copied().unwrap_or(0);
+        value = plus_product(modulus, next, x, value);
         out[e] = value;
     }
 }
@@ -81,10 +73,8 @@ pub fn basis_scale(modulus: Modulus, x: u32, points: &[u32]) -> u32
     let q = field::prime_of(modulus);
     let own = field::reduce(modulus, x as u64);
     let mut scale = 1;
-    let mut i = points.len();
-    while 0 < i {
-        i -= 1;
-        let other = field::reduce(modulus, points[i] as u64);
+    for y in points.iter().rev() {
+        let other = field::reduce(modulus, *y as u64);
         if own != other {
             let difference = own + (q - other);
             let inverse = field_inverse::inverse_of(modulus, difference);

@@ -1,13 +1,13 @@
 -- `decode_basis::from_roots` meets its contract.
 use mathlib.Core.Path.{◌≡◌, sym, ap, ap₂, ◌∙◌}
+use mathlib.Core.List.{List, [], ◌∷◌, ◌++◌, append_assoc, append-nil}
 use Prim.Native.Nat.{ℕ}
-use native.Mathlib.Omega.{arith}
-use lib.ListN.{length, drop}
+use lib.ListN.{length}
 use Rattle.algebra.proofs.Lists.{length_tab}
 use Rattle.field.specs.Modulus.{prime}
 use Rattle.field.proofs.Moduli.{prime_prime}
 use Rattle.decode_basis.specs.Internal.{coefficients, root_product}
-use Rattle.decode_basis.proofs.Steps.{length_coefficients, product_none, product_more}
+use Rattle.decode_basis.proofs.Steps.{all_passed, product_none, product_more}
 use Rattle.decode_basis.proofs.from_roots.Goals as goal
 use Rattle.decode_basis.proofs.from_roots.Goals.{After-set_one}
 
@@ -15,49 +15,33 @@ use Rattle.decode_basis.proofs.from_roots.Goals.{After-set_one}
 room : (c : After-set_one) → length c.set_one.new.out ≡ length c.args.out.now
 room c = ap length c.set_one.ensures ∙ length_tab _ (length c.args.out.now)
 
-pub loop-i-init : goal.loop-i-init
-loop-i-init c =
+pub loop-y-init : goal.loop-y-init
+loop-y-init c =
     let a = c.args in
     let q = prime a.modulus in
-    record {
-      is =
-          c.set_one.ensures
-          ∙ product_none q a.points.now (length a.out.now) (prime_prime a.modulus).above_one
-          ∙ ap (coefficients q (root_product q (drop (length a.points.now) a.points.now))) (sym (room (goal.at.loop-i-init c).After-set_one));
-      short = omega arith;
-    }
+    let all : c.into_iter-y-iterator.result.iter.rest.now ≡ a.points.now = cc in (
+      [],
+      sym (append-nil _ ∙ all),
+      c.set_one.ensures
+          ∙ product_none q (length a.out.now) (prime_prime a.modulus).above_one
+          ∙ ap (coefficients q (root_product q [])) (sym (room (goal.at.loop-y-init c).After-set_one)),
+    )
 
-pub overflow_sub-i : goal.overflow_sub-i
-overflow_sub-i c = omega arith
-
-pub offset_bounds-points-i : goal.offset_bounds-points-i
-offset_bounds-points-i c = omega arith
-
-pub bounds-points-i : goal.bounds-points-i
-bounds-points-i c = omega arith
-
-pub loop-i-smaller : goal.loop-i-smaller
-loop-i-smaller c = omega arith
-
-pub loop-i-preserved : goal.loop-i-preserved
-loop-i-preserved c =
-    let a = c.args in
-    let q = prime a.modulus in
-    record {
-      is =
-          c.times_root.ensures
-          ∙ product_more q a.points.now (length c.set_one.new.out) c.loop-i.out c.loop-i.i (omega arith) (omega arith) c.loop-i.invariant.is;
-      short = omega arith;
-    }
-
-pub shape_of-out : goal.shape_of-out
-shape_of-out c =
-    ap length c.loop-i.invariant.is ∙ length_coefficients _ _ (length c.set_one.new.out) ∙ room (goal.at.shape_of-out c).After-set_one
+pub loop-y-preserved : goal.loop-y-preserved
+loop-y-preserved c =
+    let q = prime c.args.modulus in
+    let passed = c.loop-y.invariant.0 in
+    let y = c.in-Some.y.now in (
+      y ∷ passed,
+      c.loop-y.invariant.1
+          ∙ ap (λ (l : List ℕ). l ++ passed) c.in-Some.ensures.steps
+          ∙ append_assoc c.next.new.self.iter.rest.now (y ∷ []) passed,
+      c.times_root.ensures ∙ product_more q (length c.set_one.new.out) c.loop-y.out passed y c.loop-y.invariant.2,
+    )
 
 pub returns : goal.returns
 returns c =
-    let a = c.args in
-    let q = prime a.modulus in
-    let all : c.loop-i.i ≡ 0 = omega arith in
-    c.loop-i.invariant.is
-    ∙ ap₂ (λ (i n : ℕ). coefficients q (root_product q (drop i a.points.now)) n) all (room (goal.at.returns c).After-set_one)
+    let q = prime c.args.modulus in
+    let all = all_passed c.args.points.now c.loop-y.y-iterator.iter.rest.now c.loop-y.invariant.0 c.loop-y.invariant.1 c.in-None.ensures.steps.0 in
+    c.loop-y.invariant.2
+    ∙ ap₂ (λ (ys : List ℕ) (n : ℕ). coefficients q (root_product q ys) n) all (room (goal.at.returns c).After-set_one)
