@@ -19,15 +19,8 @@ pub fn inverse_of(modulus: Modulus, a: u32) -> u32
     let mut last_factor = 0;
     let mut next_factor = 1;
     let mut minus = true;
-    loop {
-        if next == 0 {
-            // The last remainder is 1 and its factor the inverse; where a is 0, it is q and its factor 0.
-            break if minus && 0 < last_factor {
-                q - last_factor
-            } else {
-                last_factor
-            };
-        }
+    // Stays: Euclid's remainders fall, and no index is counted.
+    while next != 0 {
         let quotient = last / next;
         let remainder = last % next;
         let new_factor = last_factor + quotient * next_factor;
@@ -36,5 +29,11 @@ pub fn inverse_of(modulus: Modulus, a: u32) -> u32
         last_factor = next_factor;
         next_factor = new_factor;
         minus = !minus;
+    }
+    // The last remainder is 1 and its factor the inverse; where a is 0, it is q and its factor 0.
+    if minus && 0 < last_factor {
+        q - last_factor
+    } else {
+        last_factor
     }
 }
