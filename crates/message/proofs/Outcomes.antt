@@ -1,6 +1,5 @@
 -- What the calls return and leave, by their tests.
 --
---   fields_told, refused_told        what an outcome of looking over or reading tells of its number
 --   told_fields                      one that tells fields on paper has these fields
 --   written_done, written_refused    what writing leaves
 --   read_told                        what reading tells on paper: the first number that fits, or the fields
@@ -14,32 +13,24 @@ use Prim.Native.Nat.{ℕ, zero, suc, ◌<◌, ◌≤◌}
 use native.Mathlib.Nat.{suc-ne-zero}
 use lib.ListN.{length, drop}
 use borrow.Author.Tests.{lt-ltb, le-ltb}
-use Rattle.refusal.specs.Chain.{first, outcome, done, refused}
-use Rattle.refusal.proofs.Chains.{first_hit, first_miss, outcome_map, unless_done, unless_refused_lem}
+use Rattle.std.specs.Prelude.{Result, Ok, Err}
+use Rattle.refusal.specs.declared.Refusal.{Refusal}
+use Rattle.refusal.specs.Numbers.{number, refusal_of, sheet}
+use Rattle.refusal.specs.Chain.{first, outcome, answered, refuse, done, refused}
+use Rattle.refusal.proofs.Chains.{first_hit, first_miss, first_numbered, unless_done, unless_refused_lem}
 use Rattle.message_header.specs.declared.Header.{Header}
 use Rattle.message_header.specs.Header.{header_of, element_count, fields}
 use Rattle.message_header.proofs.Outcomes.{same_fields}
-use Rattle.message.specs.declared.Parsed.{Parsed}
-use Rattle.message.specs.declared.Parsed.TheVariants.{Fields, Refused}
+use Rattle.message.proofs.Tests.{read_numbered}
 use Rattle.message.specs.Format.{message_of, elements, write_tests, message_tests, read_tests, written, examined, read_as, read_into, told}
 
-pub fields_told : (h : Header) (number : ℕ) {k : Header} → outcome number (Fields h) Refused ≡ Fields k → (number ≡ 0) × (k ≡ h)
-unfolding outcome
-fields_told h zero e = (refl, cc)
-fields_told h (suc n) e = let z : ◌≡◌ {A = ℕ} 1 0 = cc in absurd (suc-ne-zero 0 z)
-
-pub refused_told : (h : Header) (number : ℕ) {n : ℕ} → outcome number (Fields h) Refused ≡ Refused n → (number ≡ n) × (n ≡ 0 → ⊥)
-unfolding outcome
-refused_told h zero e = let z : ◌≡◌ {A = ℕ} 1 0 = cc in absurd (suc-ne-zero 0 z)
-refused_told h (suc k) {n} e = let same : suc k ≡ n = cc in (same, λ z. suc-ne-zero k (same ∙ z))
-
-pub told_fields : (r : Parsed) (h : Header) → told r ≡ done (fields h) → r ≡ Fields h
+pub told_fields : (r : Result Header Refusal) (h : Header) → told r ≡ done (fields h) → r ≡ Ok h
 unfolding fields
-told_fields (Fields k) h e = ap Fields (same_fields k h (ap (λ t. t.values) e))
-told_fields (Refused n) h e = absurd (never (ap (λ t. t.values) e))
+told_fields (Ok k) h e = ap Ok (same_fields k h (ap (λ t. t.values) e))
+told_fields (Err n) h e = absurd (never (ap (λ t. t.values) e))
   where
     never : [] ≡ fields h → ⊥
-    never none = let z : ◌≡◌ {A = ℕ} 1 0 = cc in suc-ne-zero 0 z
+    never none = cc
 
 module _ (h : Header) (xs out : List ℕ) where
   pub written_done : first (write_tests h xs (length out)) ≡ 0 → written h xs out ≡ message_of h xs
@@ -53,15 +44,20 @@ module _ (h : Header) (xs out : List ℕ) where
 module _ (message : List ℕ) where
   module _ (room : ℕ) where
     pub read_told : told (read_as message room) ≡ outcome (first (read_tests message room)) (done (fields (header_of message))) refused
-    unfolding read_as
-    read_told = outcome_map told (Fields (header_of message)) Refused (first (read_tests message room))
+    unfolding read_as answered outcome
+    read_told = go (first (read_tests message room)) (first_numbered (read_tests message room) (read_numbered message room))
+      where
+        go : (n : ℕ) → ((n ≡ 0 → ⊥) → number (refusal_of n) ≡ n)
+            → told (outcome n (Ok (header_of message)) refuse) ≡ outcome n (done (fields (header_of message))) refused
+        go zero is = refl
+        go (suc n) is = ap refused (is (suc-ne-zero n))
 
     short_tests : room < 4096 → first (read_tests message room) ≡ 13
     unfolding read_tests
     short_tests l = first_hit _ 13 _ (lt-ltb room 4096 l)
 
-    pub read_short : room < 4096 → read_as message room ≡ Refused 13
-    unfolding read_as outcome
+    pub read_short : room < 4096 → read_as message room ≡ Err Refusal.Length
+    unfolding read_as answered outcome refusal_of sheet
     read_short l = rw (short_tests l)
 
     read_tests_lem : 4096 ≤ room → first (read_tests message room) ≡ first (message_tests message)
@@ -69,7 +65,7 @@ module _ (message : List ℕ) where
     read_tests_lem l = first_miss _ 13 _ (le-ltb room 4096 l)
 
     pub read_long : 4096 ≤ room → read_as message room ≡ examined message
-    unfolding read_as examined
+    unfolding read_as examined answered
     read_long l = rw (read_tests_lem l)
 
   module _ (out : List ℕ) where

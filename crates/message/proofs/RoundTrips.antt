@@ -9,7 +9,6 @@ use mathlib.Core.Path.{◌≡◌, sym, ap, ap₂, ◌∙◌, subst}
 use mathlib.Core.Logic.{⊎_elim}
 use mathlib.Core.List.{List, ◌++◌}
 use Prim.Native.Nat.{ℕ, ◌+◌, ◌*◌, ◌^◌, ◌<◌, ◌≤◌}
-use native.Mathlib.Nat.{suc-ne-zero}
 use native.Mathlib.Omega.{arith}
 use lib.ListN.{length, take, drop, length-append, length-drop, take-append-drop}
 use lib.Seq.{drop_at, get_or-drop, take_at}
@@ -17,7 +16,9 @@ use Rattle.algebra.specs.Lists.{AllBelow}
 use Rattle.algebra.proofs.Lists.{below_append}
 use Rattle.algebra.proofs.Orders.{le_or_lt}
 use Rattle.refusal.specs.Chain.{first, done}
-use Rattle.refusal.proofs.Chains.{outcome_done}
+use Rattle.std.specs.Prelude.{Ok, Err}
+use Rattle.refusal.specs.declared.Refusal.{Refusal}
+use Rattle.refusal.proofs.Answered.{answered_done, is_done}
 use Rattle.message_bytes.specs.Bytes.{bytes_of, elements_of}
 use Rattle.message_bytes.proofs.Bytes.{length_bytes_of, bytes_of_bytes, elements_of_bytes, bytes_of_elements}
 use Rattle.message_bytes.proofs.Words.{length_elements}
@@ -25,11 +26,10 @@ use Rattle.message_header.specs.declared.Header.{Header}
 use Rattle.message_header.specs.Header.{header, header_of, element_count, field_tests, fields}
 use Rattle.message_header.proofs.Fields.{Ranged, ranged}
 use Rattle.message_header.proofs.Headers.{length_header, header_bytes, mark_header, version_header, header_of_header, header_header_of}
-use Rattle.message.specs.declared.Parsed.TheVariants.{Fields, Refused}
 use Rattle.message.specs.Format.{message_of, payload, elements, element_test, write_tests, message_tests, written, examined, read_as, read_into, told}
 use Rattle.message.specs.RoundTrips.{ReadsBack, IsWritten, RoundTrips}
 use Rattle.message.proofs.Fields.{Writable, writable, writes, Readable, readable, reads, small}
-use Rattle.message.proofs.Outcomes.{fields_told, told_fields, written_done, read_short, read_long, read_done}
+use Rattle.message.proofs.Outcomes.{told_fields, written_done, read_short, read_long, read_done}
 
 module _ (h : Header) (xs : List ℕ) (room : ℕ) (number : h.number < 2 ^ 32) (accepted : first (write_tests h xs room) ≡ 0) where
   w : Writable h xs room
@@ -113,8 +113,8 @@ module _ (h : Header) (xs out store : List ℕ) (number : h.number < 2 ^ 32) (ac
         ap told
             (ap (λ (bytes : List ℕ). read_as bytes (length store)) is
             ∙ read_long (message_of h xs) (length store) room
-            ∙ outcome_done _ _ _ back.accepted
-            ∙ ap Fields back.same_header),
+            ∙ answered_done _ _ back.accepted
+            ∙ ap Ok back.same_header),
         ap (λ (bytes : List ℕ). read_into bytes store) is
             ∙ read_done (message_of h xs) store room back.accepted
             ∙ ap₂ (λ (ys : List ℕ) (n : ℕ). ys ++ drop n store) back.same_elements same_count,
@@ -122,7 +122,7 @@ module _ (h : Header) (xs out store : List ℕ) (number : h.number < 2 ^ 32) (ac
 
 module _ (message out store : List ℕ) (h : Header) (bytes : AllBelow 256 message) (read : told (read_as message (length store)) ≡ done (fields h))
     (whole : length out ≡ length message) where
-  has_fields : read_as message (length store) ≡ Fields h
+  has_fields : read_as message (length store) ≡ Ok h
   has_fields = told_fields (read_as message (length store)) h read
 
   -- the output of reading was long enough
@@ -130,12 +130,12 @@ module _ (message out store : List ℕ) (h : Header) (bytes : AllBelow 256 messa
   room = ⊎_elim (λ (l : 4096 ≤ length store). l) (λ (l : length store < 4096). absurd (never (read_short message (length store) l)))
       (le_or_lt 4096 (length store))
     where
-      never : read_as message (length store) ≡ Refused 13 → ⊥
-      never e = let z : ◌≡◌ {A = ℕ} 1 0 = cc has_fields in suc-ne-zero 0 z
+      never : read_as message (length store) ≡ Err Refusal.Length → ⊥
+      never e = cc has_fields
 
   accepted : (first (message_tests message) ≡ 0) × (h ≡ header_of message)
   unfolding examined
-  accepted = fields_told _ _ (sym (read_long message (length store) room) ∙ has_fields)
+  accepted = is_done _ _ _ (sym has_fields ∙ read_long message (length store) room)
 
   same_elements : take (element_count h) (read_into message store) ≡ elements message
   unfolding elements

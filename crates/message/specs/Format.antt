@@ -11,16 +11,16 @@
 --   examined message       == what looking a message over returns
 --   read_as, read_into       == what reading returns, and what it leaves in the output: past rows times columns it is untouched
 --   told parsed            == what the outcome of looking over or reading says on paper: its number, and the fields
-use Rattle.std.specs.Prelude.{Bool, not, ◌||◌, List, [], ◌∷◌, ◌++◌, ℕ, ◌+◌, ◌*◌, ltb, length, drop}
+use Rattle.std.specs.Prelude.{Bool, not, ◌||◌, List, [], ◌∷◌, ◌++◌, ℕ, ◌+◌, ◌*◌, ltb, length, drop, Result, Ok, Err}
 use Rattle.algebra.specs.Lists.{all_below}
-use Rattle.refusal.specs.Chain.{Test, first, outcome, unless_refused, Told, done, refused, differs}
+use Rattle.refusal.specs.declared.Refusal.{Refusal}
+use Rattle.refusal.specs.Numbers.{number}
+use Rattle.refusal.specs.Chain.{Test, answered, unless_refused, Told, done, refused, differs}
 use Rattle.refusal.specs.Limits.{most_elements}
 use Rattle.field.specs.Modulus.{modulus}
 use Rattle.message_bytes.specs.Bytes.{bytes_of, elements_of}
 use Rattle.message_header.specs.declared.Header.{Header}
 use Rattle.message_header.specs.Header.{header, header_of, element_count, field_tests, header_tests, fields}
-use Rattle.message.specs.declared.Parsed.{Parsed}
-use Rattle.message.specs.declared.Parsed.TheVariants.{Fields, Refused}
 
 unfoldable pub message_of : Header → List ℕ → List ℕ
 message_of h xs = header h ++ bytes_of xs
@@ -53,16 +53,16 @@ read_tests message room = (ltb room most_elements, 13) ∷ message_tests message
 unfoldable pub written : Header → List ℕ → List ℕ → List ℕ
 written h xs out = unless_refused (write_tests h xs (length out)) (message_of h xs) out
 
-unfoldable pub examined : List ℕ → Parsed
-examined message = outcome (first (message_tests message)) (Fields (header_of message)) Refused
+unfoldable pub examined : List ℕ → Result Header Refusal
+examined message = answered (message_tests message) (header_of message)
 
-unfoldable pub read_as : List ℕ → ℕ → Parsed
-read_as message room = outcome (first (read_tests message room)) (Fields (header_of message)) Refused
+unfoldable pub read_as : List ℕ → ℕ → Result Header Refusal
+read_as message room = answered (read_tests message room) (header_of message)
 
 unfoldable pub read_into : List ℕ → List ℕ → List ℕ
 read_into message out =
     unless_refused (read_tests message (length out)) (elements message ++ drop (element_count (header_of message)) out) out
 
-abbrev pub told : Parsed → Told ℕ
-told (Fields h) = done (fields h)
-told (Refused n) = refused n
+abbrev pub told : Result Header Refusal → Told ℕ
+told (Ok h) = done (fields h)
+told (Err r) = refused (number r)

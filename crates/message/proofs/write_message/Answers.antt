@@ -12,12 +12,8 @@ use Rattle.message.specs.Format.{write_tests}
 use Rattle.message.proofs.Fields.{writable}
 use Rattle.message.proofs.Parts.{copied_header, written_part}
 use Rattle.message.proofs.Outcomes.{written_done, written_refused}
+use Rattle.refusal.proofs.Answered.{is_done, is_refused}
 use Rattle.message.proofs.write_message.Goals as goal
-
-pub returns-then-refused-ne0 : goal.returns-then-refused-ne0
-returns-then-refused-ne0 c =
-    let a = c.args in
-    let refused = c.write_refusal-refused in record { number = refused.ensures; bytes = sym (written_refused a.h a.xs.now a.out.now (λ z. c.if-refused-ne0.true (refused.ensures ∙ z))) }
 
 module _ (h : Header) (xs out : List ℕ) where
   -- the output has room for the message, and begins with its header
@@ -31,23 +27,23 @@ module _ (h : Header) (xs out : List ℕ) where
   long : {out' : List ℕ} → out' ≡ header h ++ drop 16 out → 16 ≤ length out'
   long e = omega (arith, ap length e, length-append (header h) (drop 16 out), length_header h)
 
+pub returns-in_err-check_write-clause-bytes : goal.returns-in_err-check_write-clause-bytes
+returns-in_err-check_write-clause-bytes c = sym (written_refused _ _ _ (is_refused _ _ _ c.in_err-check_write.ensures).0)
+
 pub slice_bounds-write_elements-count : goal.slice_bounds-write_elements-count
 slice_bounds-write_elements-count c =
-    let accepted = sym c.write_refusal-refused.ensures ∙ c.if-refused-ne0.false in
-    long c.args.h c.args.xs.now c.args.out.now (headed _ c.args.xs.now c.args.out.now accepted c.header_bytes-head.ensures c.copy_bytes.ensures)
+    let clear = (is_done _ _ _ c.in_ok-check_write.ensures).0 in
+    long c.args.h c.args.xs.now c.args.out.now (headed _ _ _ clear c.header_bytes-head.ensures c.copy_bytes.ensures)
 
 pub slice_bounds-write_elements-start : goal.slice_bounds-write_elements-start
 slice_bounds-write_elements-start c =
-    let accepted = sym c.write_refusal-refused.ensures ∙ c.if-refused-ne0.false in
-    long c.args.h c.args.xs.now c.args.out.now (headed _ c.args.xs.now c.args.out.now accepted c.header_bytes-head.ensures c.copy_bytes.ensures)
+    let clear = (is_done _ _ _ c.in_ok-check_write.ensures).0 in
+    long c.args.h c.args.xs.now c.args.out.now (headed _ _ _ clear c.header_bytes-head.ensures c.copy_bytes.ensures)
 
-pub returns : goal.returns
-returns c =
+pub returns-clause-bytes : goal.returns-clause-bytes
+returns-clause-bytes c =
     let a = c.args in
-    let accepted = sym c.write_refusal-refused.ensures ∙ c.if-refused-ne0.false in
-    let head = headed a.h a.xs.now a.out.now accepted c.header_bytes-head.ensures c.copy_bytes.ensures in
-    record {
-      number = sym accepted;
-      bytes = written_part a.h a.xs.now a.out.now c.copy_bytes.new.out c.write_elements.new.out (room_for a.h a.xs.now a.out.now accepted) head c.write_elements.ensures
-          ∙ sym (written_done a.h a.xs.now a.out.now accepted);
-    }
+    let clear = (is_done _ _ _ c.in_ok-check_write.ensures).0 in
+    let head = headed a.h a.xs.now a.out.now clear c.header_bytes-head.ensures c.copy_bytes.ensures in
+    written_part a.h a.xs.now a.out.now c.copy_bytes.new.out c.write_elements.new.out (room_for a.h a.xs.now a.out.now clear) head c.write_elements.ensures
+    ∙ sym (written_done a.h a.xs.now a.out.now clear)
