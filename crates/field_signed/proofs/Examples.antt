@@ -8,7 +8,8 @@ use mathlib.Core.Bool.{cond}
 use mathlib.Core.List.{[], ◌∷◌, map}
 use Prim.Native.Nat.{ℕ}
 use lib.IntN.{pos, negsuc}
-use Rattle.refusal.specs.Chain.{first, outcome, outside}
+use Rattle.refusal.specs.Numbers.{refusal_of, sheet}
+use Rattle.refusal.specs.Chain.{first, outcome, answered, outside}
 use Rattle.field.specs.Modulus.{moduli, modulus, no_modulus}
 use Rattle.field_signed.specs.Signed.{half, signed, in_range, signed_tests, signed_outcome, signed_told}
 
@@ -23,5 +24,5 @@ unfolding half in_range
 ranges = refl
 
 numbers : map (λ r. (signed_told r).number) (signed_outcome 4 2147483646 ∷ signed_outcome 4 2147483647 ∷ signed_outcome 5 0 ∷ []) ≡ 0 ∷ 14 ∷ 1 ∷ []
-unfolding signed signed_tests signed_outcome signed_told first outcome outside moduli modulus no_modulus
+unfolding signed signed_tests signed_outcome signed_told first outcome answered outside refusal_of sheet moduli modulus no_modulus
 numbers = refl

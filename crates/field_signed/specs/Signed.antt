@@ -18,9 +18,10 @@
 use Rattle.std.specs.Prelude.{◌≡◌, Bool, true, not, cond, ◌&&◌, List, [], ◌∷◌, ℕ, zero, suc, ◌-◌, ◌*◌, ◌/◌, ◌%◌, ◌<◌, leb, ltb, ℤ, pos, negsuc, neg_ℤ, ◌+ℤ◌, ◌-ℤ◌, ◌*ℤ◌}
 use Rattle.std.specs.Int.Signed.{le_z}
 use Rattle.algebra.specs.Sums.{sum}
-use Rattle.refusal.specs.Chain.{Test, first, outcome, Told, done, refused}
-use Rattle.field_signed.specs.declared.Signed.{Signed}
-use Rattle.field_signed.specs.declared.Element.{Element}
+use Rattle.std.specs.Prelude.{Result, Ok, Err}
+use Rattle.refusal.specs.declared.Refusal.{Refusal}
+use Rattle.refusal.specs.Numbers.{number as refusal_number}
+use Rattle.refusal.specs.Chain.{Test, answered, Told, done, refused}
 use Rattle.field.specs.Modulus.{modulus, no_modulus}
 
 unfoldable pub half : ℕ → ℕ
@@ -43,19 +44,19 @@ signed_tests number v = (no_modulus number, 1) ∷ (not (ltb v (modulus number))
 unfoldable pub element_tests : ℕ → ℤ → List Test
 element_tests number z = (no_modulus number, 1) ∷ (not (in_range (modulus number) z), 25) ∷ []
 
-unfoldable pub signed_outcome : ℕ → ℕ → Signed
-signed_outcome number v = outcome (first (signed_tests number v)) (Signed.Value (signed (modulus number) v)) Signed.Refused
+unfoldable pub signed_outcome : ℕ → ℕ → Result ℤ Refusal
+signed_outcome number v = answered (signed_tests number v) (signed (modulus number) v)
 
-unfoldable pub element_outcome : ℕ → ℤ → Element
-element_outcome number z = outcome (first (element_tests number z)) (Element.Value (element (modulus number) z)) Element.Refused
+unfoldable pub element_outcome : ℕ → ℤ → Result ℕ Refusal
+element_outcome number z = answered (element_tests number z) (element (modulus number) z)
 
-unfoldable pub signed_told : Signed → Told ℤ
-signed_told (Signed.Value z) = done (z ∷ [])
-signed_told (Signed.Refused n) = refused n
+unfoldable pub signed_told : Result ℤ Refusal → Told ℤ
+signed_told (Ok z) = done (z ∷ [])
+signed_told (Err r) = refused (refusal_number r)
 
-unfoldable pub element_told : Element → Told ℕ
-element_told (Element.Value v) = done (v ∷ [])
-element_told (Element.Refused n) = refused n
+unfoldable pub element_told : Result ℕ Refusal → Told ℕ
+element_told (Ok v) = done (v ∷ [])
+element_told (Err r) = refused (refusal_number r)
 
 pub data Taking : Type 0 where
   as-they-are by-reading : Taking

@@ -4,55 +4,38 @@
 ghost use Rattle.std.specs.Prelude.{◌≡◌};
 ghost use Rattle.field_signed.specs.Signed.{signed_outcome, element_outcome};
 
-use field::Named;
-
-// What signed reading returns.
-#[derive(Clone, Copy)]
-pub enum Signed {
-    Value(i64),
-    Refused(u32),
-}
-
-// What the way back returns.
-#[derive(Clone, Copy)]
-pub enum Element {
-    Value(u32),
-    Refused(u32),
-}
+use field::Modulus;
+use refusal::Refusal;
 
 // The signed reading of element v: v up to half of q, and v - q above.
-pub fn signed_reading(number: u32, v: u32) -> Signed
+pub fn signed_reading(number: u32, v: u32) -> Result<i64, Refusal>
     ensures { result ≡ signed_outcome number v }
 {
-    let Named::Is(modulus) = field::modulus_named(number) else {
-        return Signed::Refused(refusal::MODULUS);
-    };
+    let modulus = Modulus::try_from(number)?;
     let q = field::prime_of(modulus);
     if q <= v {
-        return Signed::Refused(refusal::ELEMENT);
+        return Err(Refusal::Element);
     }
     let top = q - 1;
     if v <= top / 2 {
-        return Signed::Value(v as i64);
+        return Ok(v as i64);
     }
-    Signed::Value(v as i64 - q as i64)
+    Ok(v as i64 - q as i64)
 }
 
 // The way back: the element whose signed reading is the value.
-pub fn element_of(number: u32, value: i64) -> Element
+pub fn element_of(number: u32, value: i64) -> Result<u32, Refusal>
     ensures { result ≡ element_outcome number value }
 {
-    let Named::Is(modulus) = field::modulus_named(number) else {
-        return Element::Refused(refusal::MODULUS);
-    };
+    let modulus = Modulus::try_from(number)?;
     let q = field::prime_of(modulus);
     let top = q - 1;
     let half = (top / 2) as i64;
     if value < -half || half < value {
-        return Element::Refused(refusal::SIGNED);
+        return Err(Refusal::Signed);
     }
     if 0 <= value {
-        return Element::Value(value as u32);
+        return Ok(value as u32);
     }
-    Element::Value((value + q as i64) as u32)
+    Ok((value + q as i64) as u32)
 }

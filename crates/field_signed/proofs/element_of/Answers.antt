@@ -1,4 +1,4 @@
--- `field::element_of` meets its contract: the number, the range, and then the two signs.
+-- `field_signed::element_of` meets its contract: the number, the range, and then the two signs.
 use mathlib.Core.Path.{◌≡◌, sym, ap, ◌∙◌, subst}
 use mathlib.Core.Bool.{true, false}
 use Prim.Native.Nat.{ℕ, ◌-◌, ◌/◌, ◌^◌, ◌<◌, ◌≤◌}
@@ -7,20 +7,22 @@ use lib.IntN.{ℤ, pos, neg_ℤ, nat_abs, ◌+ℤ◌, ◌-ℤ◌}
 use lib.Signed.{lt_z, le_z}
 use mir.Syntax.{w32, w64}
 use mir.Val.{Fits, SFits, to_z, of_z}
+use Rattle.std.specs.Prelude.{Ok}
+use Rattle.std.proofs.lemmas.Result.{err_from_is_err_and}
 use mir.Facts.{to_z-of_z}
-use Rattle.field_signed.specs.declared.Element.{Element}
 use Rattle.field_signed.specs.Signed.{half, in_range, element}
-use Rattle.field.proofs.Moduli.{Known, known, none_named}
+use Rattle.field.proofs.Moduli.{Known, known, is_named, is_unnamed}
 use Rattle.field_signed.proofs.Readings.{element_below}
 use Rattle.field_signed.proofs.Outcomes.{element_unknown, element_outside, element_value}
-use Rattle.field_signed.proofs.Words.{word, negative, negative_fits, fitting, too_low, too_high, within, plain, wrapped, narrow}
+use Rattle.field_signed.proofs.Words.{word, negative, negative_fits, fitting, too_low, too_high, within, plain, wrapped}
 use Rattle.field_signed.proofs.element_of.Goals as goal
 use Rattle.field_signed.proofs.element_of.Goals.{After-prime_of-q, then-value-half-via-then-value-half, then-value-half-via-else-value-half+then-half-value}
 
-pub returns-in_default : goal.returns-in_default
-returns-in_default c =
-    let a = c.args in
-    sym (element_unknown a.number a.value (none_named a.number (sym c.modulus_named.ensures ∙ c.in_default.is)))
+pub returns-in_err-modulus : goal.returns-in_err-modulus
+returns-in_err-modulus c =
+    let p = err_from_is_err_and c.from_residual.result c.from_residual.ensures.1 in
+    let u = is_unnamed c.args.number _ (sym c.in_err-modulus.was ∙ c.try_from.ensures) in
+    rw (p.1, p.2, u.1) (sym (element_unknown c.args.number c.args.value u.0))
 
 abbrev z : After-prime_of-q → ℤ
 z c = c.args.value
@@ -29,13 +31,7 @@ abbrev q : After-prime_of-q → ℕ
 q c = c.prime_of-q.result
 
 known-q : (c : After-prime_of-q) → Known c.args.number (q c)
-known-q c = known _ (sym c.modulus_named.ensures ∙ c.in-Is.is) c.prime_of-q.ensures
-
-pub overflow_sub-top : goal.overflow_sub-top
-overflow_sub-top c = omega (arith, (known-q (goal.at.overflow_sub-top c).After-prime_of-q).is_prime.above_one)
-
-pub overflow_sub-half : goal.overflow_sub-half
-overflow_sub-half c = search fitting
+known-q c = known _ (is_named c.args.number _ (sym c.in_ok-modulus.was ∙ c.try_from.ensures)) c.prime_of-q.ensures
 
 half-fits : (c : After-prime_of-q) → Fits w32 ((q c - 1) / 2)
 half-fits c = search fitting
@@ -79,15 +75,10 @@ module _ (f : After-prime_of-q)
 plain-is : (f : After-prime_of-q) → le_z (pos 0) (to_z w64 (of_z w64 (z f))) ≡ true → to_z w64 (of_z w64 (z f)) ≡ pos (element (q f) (z f))
 plain-is f t = plain (q f) (value_is f) t
 
-pub overflow_cast-result : goal.overflow_cast-result
-overflow_cast-result c =
-    let f = (goal.at.overflow_cast-result c).After-prime_of-q in
-    narrow (plain-is f c.if-value-ge0.true) (small f c.if-value-half.false c.if-half-value.false)
-
 pub returns-then-value-ge0 : goal.returns-then-value-ge0
 returns-then-value-ge0 c =
     let f = (goal.at.returns-then-value-ge0 c).After-prime_of-q in
-    ap Element.Value (ap nat_abs (plain-is f c.if-value-ge0.true))
+    ap Ok (ap nat_abs (plain-is f c.if-value-ge0.true))
     ∙ sym (element_value (known-q f) (z f) (inside f c.if-value-half.false c.if-half-value.false))
 
 pub overflow_add-result : goal.overflow_add-result
@@ -96,14 +87,8 @@ overflow_add-result c =
     subst (SFits w64) (sym (wrapped-is f c.if-value-half.false c.if-half-value.false c.if-value-ge0.false))
     (record { sfits = omega (arith, small f c.if-value-half.false c.if-half-value.false) })
 
-pub overflow_cast-result-3 : goal.overflow_cast-result-3
-overflow_cast-result-3 c =
-    let f = (goal.at.overflow_cast-result-3 c).After-prime_of-q in
-    narrow (to_z-of_z (overflow_add-result c) ∙ wrapped-is f c.if-value-half.false c.if-half-value.false c.if-value-ge0.false)
-    (small f c.if-value-half.false c.if-half-value.false)
-
 pub returns : goal.returns
 returns c =
     let f = (goal.at.returns c).After-prime_of-q in
-    ap Element.Value (ap nat_abs (to_z-of_z (overflow_add-result c) ∙ wrapped-is f c.if-value-half.false c.if-half-value.false c.if-value-ge0.false))
+    ap Ok (ap nat_abs (to_z-of_z (overflow_add-result c) ∙ wrapped-is f c.if-value-half.false c.if-half-value.false c.if-value-ge0.false))
     ∙ sym (element_value (known-q f) (z f) (inside f c.if-value-half.false c.if-half-value.false))
