@@ -8,13 +8,12 @@ ghost use Rattle.share_side.specs.Internal.{plan_side, weighed};
 use field::Modulus;
 use layout::{Series, Strides};
 use plan::Plan;
-use words::least;
 
 // How many columns can be numbered.
 const MOST_NUMBERED: usize = 256;
 
 // Which matrix is shared.
-#[derive(Clone, Copy)]
+#[derive(Clone, Copy, Debug, PartialEq, Eq)]
 pub enum Matrix {
     A,
     B,
@@ -34,10 +33,12 @@ pub struct Side {
 }
 
 // The side of a matrix, of an accepted job's plan.
+#[tactic(auto, unfolding(crate::specs::Internal::plan_side))]
 pub fn side_of(matrix: Matrix, plan: Plan) -> Side
     ensures { result ≡ plan_side matrix plan }
 {
     let g = plan.parameters;
+    // Stays: the two sides differ in every field, and seven parameters of a function that makes them would be no plainer.
     match matrix {
         Matrix::A => Side {
             grid_rows: g.m as usize,
@@ -65,11 +66,9 @@ pub fn side_of(matrix: Matrix, plan: Plan) -> Side
 pub fn weigh(modulus: Modulus, strides: Strides, series: Series, row: u8, x: u32, out: &mut [u32])
     ensures { out.new ≡ weighed (prime modulus) strides series row x out.old }
 {
-    let n = least(out.len(), MOST_NUMBERED);
-    let mut j = 0;
-    while j < n {
+    let n = out.len().min(MOST_NUMBERED);
+    for (j, weight) in out[..n].iter_mut().enumerate() {
         let exponent = layout::exponent_of(series, strides, row, j as u8);
-        out[j] = field::power(modulus, x, exponent);
-        j += 1;
+        *weight = field::power(modulus, x, exponent);
     }
 }

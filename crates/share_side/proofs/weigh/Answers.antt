@@ -1,32 +1,18 @@
 -- `share_side::weigh` meets its contract.
-use mathlib.Core.Path.{◌≡◌, refl, ap, ◌∙◌}
-use mathlib.Core.List.{◌++◌}
-use Prim.Native.Nat.{ℕ, ◌^◌, ◌%◌, min}
+use mathlib.Core.Path.{◌≡◌, ap, ◌∙◌}
+use mathlib.Core.List.{List, ◌++◌}
+use Prim.Native.Nat.{ℕ, ◌^◌, ◌%◌}
 use native.Mathlib.Omega.{arith}
-use lib.ListN.{length, drop, set, length-set}
+use lib.ListN.{length, take, drop, set}
+use lib.Seq.{length-take-le}
 use Rattle.algebra.specs.Lists.{tab}
-use Rattle.algebra.proofs.Fronts.{front_none, front_more}
+use Rattle.algebra.proofs.Fronts.{front_none, front_more, front_all}
 use Rattle.field.specs.Modulus.{prime}
 use Rattle.share_side.specs.Internal.{weight, weighed}
 use Rattle.share_side.proofs.weigh.Goals as goal
 
 pub loop-j-init : goal.loop-j-init
-loop-j-init c = record { is = front_none _ c.args.out.now; short = omega arith; same = refl }
-
-pub overflow_cast-j : goal.overflow_cast-j
-overflow_cast-j c = omega arith
-
-pub offset_bounds-out-j : goal.offset_bounds-out-j
-offset_bounds-out-j c = omega arith
-
-pub bounds-out-j : goal.bounds-out-j
-bounds-out-j c = omega arith
-
-pub overflow_add-j : goal.overflow_add-j
-overflow_add-j c = omega arith
-
-pub loop-j-smaller : goal.loop-j-smaller
-loop-j-smaller c = omega arith
+loop-j-init c = front_none _ (take c.min-n.result c.args.out.now)
 
 pub loop-j-preserved : goal.loop-j-preserved
 loop-j-preserved c =
@@ -34,19 +20,17 @@ loop-j-preserved c =
     let l = c.loop-j in
     let f = weight (prime a.modulus) a.strides a.series a.x a.row in
     let value : c.power.result ≡ f l.j = c.power.ensures ∙ ap (λ (n : ℕ). a.x ^ n % prime a.modulus) c.exponent_of-exponent.ensures in
-    record {
-      is = ap (set l.out l.j) value ∙ front_more f a.out.now l.out l.j (omega arith) l.invariant.is;
-      short = omega arith;
-      same = simp length-set l.invariant.same;
-    }
-
-pub shape_of-out : goal.shape_of-out
-shape_of-out c = c.loop-j.invariant.same
+    ap (set l.weight-items l.j) value ∙ front_more f (take c.min-n.result a.out.now) l.weight-items l.j (omega arith) l.invariant
 
 pub returns : goal.returns
 unfolding weighed
 returns c =
     let a = c.args in
+    let n = c.min-n.result in
     let f = weight (prime a.modulus) a.strides a.series a.x a.row in
-    let all : c.loop-j.j ≡ min (length a.out.now) 256 = omega (arith, c.least-n.ensures) in
-    c.loop-j.invariant.is ∙ ap (λ (k : ℕ). tab f k ++ drop k a.out.now) all
+    let part = take n a.out.now in
+    let size : length part ≡ n = length-take-le n a.out.now (omega (arith, c.min-n.ensures)) in
+    let all : c.loop-j.j ≡ n = omega arith in
+    let front : c.loop-j.weight-items ≡ tab f n
+    = c.loop-j.invariant ∙ ap (λ (k : ℕ). tab f k ++ drop k part) all ∙ front_all f part n (omega arith) in
+    ap (λ (l : List ℕ). l ++ drop n a.out.now) front ∙ ap (λ (k : ℕ). tab f k ++ drop k a.out.now) c.min-n.ensures
