@@ -2,9 +2,7 @@
 --
 --   Rest from room    the elements of 4 bytes from a start on, in a list of so many
 --   rest              the start is in it, and its offset fits 64 bits
---   RowAt s k i n     row i of row k of the blocks, in a matrix of n elements
---   row_at            each such row is there
---   width_fits, block_fits  a row of the matrix and a block have few elements
+--   row_at            row i of row k of the blocks is there, in a matrix
 --   mask_row, block_row  row i of the masks is there, and row i of a block
 use mathlib.Core.Path.{◌≡◌}
 use Prim.Native.Nat.{ℕ, ◌+◌, ◌*◌, ◌^◌, ◌<◌, ◌≤◌}
@@ -19,38 +17,22 @@ use Rattle.share_side.specs.Internal.{Small}
 use Rattle.share_side.proofs.Parts.{Part, part}
 
 pub record Rest (from room : ℕ) : Type 0 where
-  pub from_fits : Fits w64 from
   pub offset_fits : Fits w64 (from * 4)
   pub within : from ≤ room
 
 rest : (from room : ℕ) → from ≤ room → from < 2 ^ 60 → Rest from room
-rest from room h small = record { from_fits = record { fits = omega arith }; offset_fits = record { fits = omega arith }; within = h }
-
-pub record RowAt (s : Side) (k i room : ℕ) : Type 0 where
-  pub first_fits : Fits w64 (k * s.block_rows)
-  pub row_fits : Fits w64 (k * s.block_rows + i)
-  pub matrix : Rest ((k * s.block_rows + i) * (s.grid_columns * s.block_columns)) room
+rest from room h small = record { offset_fits = record { fits = omega arith }; within = h }
 
 module _ (s : Side) (small : Small s) where
-  pub width_fits : Fits w64 (s.grid_columns * s.block_columns)
-  width_fits = record { fits = omega (arith, mul-le-mul small.grid_columns small.columns_in_block) }
-
-  pub block_fits : Fits w64 (s.block_rows * s.block_columns)
-  block_fits = record { fits = omega (arith, small.block) }
-
-  pub row_at : (k i room : ℕ) → k < s.grid_rows → i < s.block_rows → room ≡ matrix_length s → RowAt s k i room
+  pub row_at : (k i room : ℕ) → k < s.grid_rows → i < s.block_rows → room ≡ matrix_length s
+      → Rest ((k * s.block_rows + i) * (s.grid_columns * s.block_columns)) room
   unfolding matrix_length block_length
   row_at k i room hk hi size =
       let last = row_end s.block_rows hk in
       let inside : k * s.block_rows + i < s.grid_rows * s.block_rows = omega arith in
-      let tall = mul-le-mul small.grid_rows small.rows_in_block in
       let most = mul-le-mul (mul-le-mul small.grid_rows small.grid_columns) small.block in
       let end = row_end (s.grid_columns * s.block_columns) inside in
-      record {
-        first_fits = record { fits = omega (arith, tall) };
-        row_fits = record { fits = omega (arith, tall) };
-        matrix = rest _ _ (omega arith) (omega (arith, most));
-      }
+      rest _ _ (omega arith) (omega (arith, most))
 
   pub mask_row : (i room : ℕ) → i < s.block_rows → room ≡ mask_length s → Rest (i * s.block_columns) room
   unfolding mask_length block_length

@@ -3,10 +3,9 @@
 
 ghost use Rattle.std.specs.Prelude.{◌≡◌, ◌+◌, ◌^◌, ◌%◌, ◌<◌, ◌≤◌, length, get_or};
 ghost use Rattle.algebra.specs.Lists.{tab};
-ghost use Rattle.refusal.specs.Chain.{first};
+ghost use Rattle.refusal.specs.Chain.{answered};
 ghost use Rattle.field.specs.Modulus.{prime};
-ghost use Rattle.share_side.specs.Sides.{block_length, matrix_length, mask_length};
-ghost use Rattle.share_side.specs.Internal.{Small, weight_count};
+ghost use Rattle.share_side.specs.Sides.{block_length};
 ghost use Rattle.share_blocks.specs.Internal.{
   beyond,
   encode_tests,
@@ -19,7 +18,7 @@ ghost use Rattle.share_blocks.specs.Internal.{
 };
 
 use field::Modulus;
-use refusal::MOST_ELEMENTS;
+use refusal::{MOST_ELEMENTS, Refusal};
 use share_side::Side;
 
 // The most blocks and masks that a side has, together.
@@ -34,6 +33,7 @@ const MOST_MASKS: usize = 16;
 const FEW_COLUMNS: usize = 64;
 
 // A side is beyond the limits.
+#[tactic(auto, unfolding(crate::specs::Internal::beyond, refusal::specs::Chain::outside, share_side::specs::Sides::block_length))]
 fn beyond_limits(s: Side) -> bool
     ensures { result ≡ beyond s }
 {
@@ -47,116 +47,139 @@ fn beyond_limits(s: Side) -> bool
 
 // The tests of encoding: 6 of a side beyond the limits, which no accepted job has, and 13 to 15 of the matrix, the masks and the
 // room for the block.
-fn encode_refusal(modulus: Modulus, s: Side, xs: &[u32], masks: &[u32], room: usize) -> u32
-    ensures { result ≡ first (encode_tests (prime modulus) s xs.now masks.now room) }
+#[tactic(auto, unfolding(crate::specs::Internal::encode_tests, share_side::specs::Sides::matrix_tests, share_side::specs::Sides::matrix_length, share_side::specs::Sides::mask_length, share_side::specs::Sides::block_length, refusal::specs::Chain::answered, refusal::specs::Chain::outcome, refusal::specs::Chain::first, refusal::specs::Numbers::refusal_of, refusal::specs::Numbers::sheet))]
+fn encode_refusal(
+    modulus: Modulus,
+    s: Side,
+    xs: &[u32],
+    masks: &[u32],
+    room: usize,
+) -> Result<(), Refusal>
+    ensures { result ≡ answered (encode_tests (prime modulus) s xs.now masks.now room) tt }
 {
     if beyond_limits(s) {
-        return refusal::BLOCK;
+        return Err(Refusal::Block);
     }
     let block = s.block_rows * s.block_columns;
     let matrix = s.grid_rows * s.grid_columns * block;
     if (xs.len() != matrix) | (masks.len() != s.mask_count * block) | (room != block) {
-        return refusal::LENGTH;
+        return Err(Refusal::Length);
     }
     if !field::all_below(modulus, xs) {
-        return refusal::ELEMENT;
+        return Err(Refusal::Element);
     }
     if !field::all_below(modulus, masks) {
-        return refusal::MASK;
+        return Err(Refusal::Mask);
     }
-    0
+    Ok(())
 }
 
-// Adds the blocks' part of row i of the block to the sums: each row of blocks has one row of the matrix in it.
-fn add_blocks(modulus: Modulus, s: Side, i: usize, weights: &[u32], xs: &[u32], sums: &mut [u64])
-    requires { Small s × i < s.block_rows × weight_count s ≤ length weights.now × length xs.now ≡ matrix_length s }
-    ensures { let before = sums.old in let ws = weights.now in
-        let terms = block_terms (prime modulus) s ws xs.now i in
-        sums.new ≡ tab (λ j. (get_or before j 0 + terms j) % 2 ^ 64) (length before) }
-{
-    let grid_rows = s.grid_rows;
-    let grid_columns = s.grid_columns;
-    let block_rows = s.block_rows;
-    let block_columns = s.block_columns;
-    let width = grid_columns * block_columns;
-    let mut k = 0;
-    while k < grid_rows {
-        let start = k * grid_columns;
-        let end = start + grid_columns;
-        let from = (k * block_rows + i) * width;
+// What is encoded: a side within the limits, the weights of its blocks and masks, its matrix and its masks.
+#[derive(Clone, Copy)]
+struct Terms<'a> {
+    modulus: Modulus,
+    side: Side,
+    weights: &'a [u32],
+    xs: &'a [u32],
+    masks: &'a [u32],
+    ghost encodable: { Encodable side weights.now xs.now masks.now },
+}
+
+impl Terms<'_> {
+    // Adds the blocks' part of row i of the block to the sums: each row of blocks has one row of the matrix in it.
+    fn add_blocks(&self, i: usize, sums: &mut [u64])
+        requires { i < self.now.side.block_rows }
+        ensures { let t = self.now in let before = sums.old in
+            let terms = block_terms (prime t.modulus) t.side t.weights.now t.xs.now i in
+            sums.new ≡ tab (λ j. (get_or before j 0 + terms j) % 2 ^ 64) (length before) }
+    {
+        let s = self.side;
+        let weights = self.weights;
+        let xs = self.xs;
+        let width = s.grid_columns * s.block_columns;
+        for k in 0..s.grid_rows {
+            let start = k * s.grid_columns;
+            let end = start + s.grid_columns;
+            let from = (k * s.block_rows + i) * width;
+            sums_modular::add_rows(
+                self.modulus,
+                sums,
+                &weights[start..end],
+                &xs[from..],
+                s.block_columns,
+            );
+        }
+    }
+
+    // Adds the masks' part of row i of the block to the sums: each mask has one row in it.
+    fn add_masks(&self, i: usize, sums: &mut [u64])
+        requires { i < self.now.side.block_rows }
+        ensures { let t = self.now in let before = sums.old in
+            let terms = mask_terms (prime t.modulus) t.side t.weights.now t.masks.now i in
+            sums.new ≡ tab (λ j. (get_or before j 0 + terms j) % 2 ^ 64) (length before) }
+    {
+        let s = self.side;
+        let start = s.grid_rows * s.grid_columns;
+        let end = start + s.mask_count;
+        let from = i * s.block_columns;
+        let block = s.block_rows * s.block_columns;
+        let weights = self.weights;
+        let masks = self.masks;
         sums_modular::add_rows(
-            modulus,
+            self.modulus,
             sums,
             &weights[start..end],
-            &xs[from..],
-            block_columns,
+            &masks[from..],
+            block,
         );
-        k += 1;
+    }
+
+    // The sums of row i of the block.
+    fn sum_row(&self, i: usize, sums: &mut [u64])
+        requires { i < self.now.side.block_rows }
+        ensures { let t = self.now in
+            let terms = row_sums (prime t.modulus) t.side t.weights.now t.xs.now t.masks.now i in
+            sums.new ≡ tab (λ j. terms j % 2 ^ 64) (length sums.old) }
+    {
+        sums::clear(sums);
+        self.add_blocks(i, sums);
+        self.add_masks(i, sums);
+    }
+
+    // The block, row by row, with room for so many sums, one for each column.
+    fn encode_rows<const SUMS: usize>(&self, out: &mut [u32])
+        requires sums { self.now.side.block_columns ≤ SUMS × SUMS ≤ MOST_ELEMENTS }
+        requires block { length out.old ≡ block_length self.now.side }
+        ensures { let t = self.now in
+            out.new ≡ encoded_block (prime t.modulus) t.side t.weights.now t.xs.now t.masks.now }
+    {
+        let columns = self.side.block_columns;
+        let mut room = [0u64; SUMS];
+        let sums = &mut room[..columns];
+        // Stays: by ranges, since the contract of chunks_exact_mut does not tell what the rows hold in the end.
+        for i in 0..self.side.block_rows {
+            let start = i * columns;
+            let end = start + columns;
+            self.sum_row(i, sums);
+            sums::reduce_row(self.modulus, sums, &mut out[start..end]);
+        }
+    }
+
+    // The block, with few sums or the most.
+    fn encode_block(&self, out: &mut [u32])
+        requires { length out.old ≡ block_length self.now.side }
+        ensures { let t = self.now in
+            out.new ≡ encoded_block (prime t.modulus) t.side t.weights.now t.xs.now t.masks.now }
+    {
+        if self.side.block_columns <= FEW_COLUMNS {
+            self.encode_rows::<FEW_COLUMNS>(out);
+        } else {
+            self.encode_rows::<MOST_ELEMENTS>(out);
+        }
     }
 }
 
-// Adds the masks' part of row i of the block to the sums: each mask has one row in it.
-fn add_masks(modulus: Modulus, s: Side, i: usize, weights: &[u32], masks: &[u32], sums: &mut [u64])
-    requires { Small s × i < s.block_rows × weight_count s ≤ length weights.now × length masks.now ≡ mask_length s }
-    ensures { let before = sums.old in let ws = weights.now in
-        let terms = mask_terms (prime modulus) s ws masks.now i in
-        sums.new ≡ tab (λ j. (get_or before j 0 + terms j) % 2 ^ 64) (length before) }
-{
-    let start = s.grid_rows * s.grid_columns;
-    let end = start + s.mask_count;
-    let from = i * s.block_columns;
-    let block = s.block_rows * s.block_columns;
-    sums_modular::add_rows(modulus, sums, &weights[start..end], &masks[from..], block);
-}
-
-// The sums of row i of the block.
-fn sum_row(
-    modulus: Modulus,
-    s: Side,
-    i: usize,
-    weights: &[u32],
-    xs: &[u32],
-    masks: &[u32],
-    sums: &mut [u64],
-)
-    requires { Encodable s weights.now xs.now masks.now × i < s.block_rows }
-    ensures { let terms = row_sums (prime modulus) s weights.now xs.now masks.now i in
-        sums.new ≡ tab (λ j. terms j % 2 ^ 64) (length sums.old) }
-{
-    sums::clear(sums);
-    add_blocks(modulus, s, i, weights, xs, sums);
-    add_masks(modulus, s, i, weights, masks, sums);
-}
-
-// The block, row by row. There is a sum for each column.
-fn encode_rows(
-    modulus: Modulus,
-    s: Side,
-    weights: &[u32],
-    xs: &[u32],
-    masks: &[u32],
-    sums: &mut [u64],
-    out: &mut [u32],
-)
-    requires { Encodable s weights.now xs.now masks.now
-        × length out.old ≡ block_length s
-        × length sums.old ≡ s.block_columns }
-    ensures { out.new
-        ≡ encoded_block (prime modulus) s weights.now xs.now masks.now }
-{
-    let block_rows = s.block_rows;
-    let block_columns = s.block_columns;
-    let mut i = 0;
-    while i < block_rows {
-        let start = i * block_columns;
-        let end = start + block_columns;
-        sum_row(modulus, s, i, weights, xs, masks, sums);
-        sums::reduce_row(modulus, sums, &mut out[start..end]);
-        i += 1;
-    }
-}
-
-// The block, with few sums or the most: the output then holds it, or the call is refused by number and the output stays as it was.
+// The block: the output then holds it, or the call is refused and the output stays as it was.
 pub fn encode(
     modulus: Modulus,
     s: Side,
@@ -164,22 +187,20 @@ pub fn encode(
     xs: &[u32],
     masks: &[u32],
     out: &mut [u32],
-) -> u32
-    ensures number { result ≡ first (encode_tests (prime modulus) s xs.now masks.now (length out.old)) }
+) -> Result<(), Refusal>
+    ensures number { result
+        ≡ answered (encode_tests (prime modulus) s xs.now masks.now (length out.old)) tt }
     ensures block { out.new
         ≡ encoded (prime modulus) s weights.now xs.now masks.now out.old }
 {
-    let number = encode_refusal(modulus, s, xs, masks, out.len());
-    if number != 0 {
-        return number;
-    }
-    let columns = s.block_columns;
-    if columns <= FEW_COLUMNS {
-        let mut few = [0u64; FEW_COLUMNS];
-        encode_rows(modulus, s, weights, xs, masks, &mut few[..columns], out);
-    } else {
-        let mut many = [0u64; MOST_ELEMENTS];
-        encode_rows(modulus, s, weights, xs, masks, &mut many[..columns], out);
-    }
-    0
+    encode_refusal(modulus, s, xs, masks, out.len())?;
+    let terms = Terms {
+        modulus,
+        side: s,
+        weights,
+        xs,
+        masks,
+    };
+    terms.encode_block(out);
+    Ok(())
 }

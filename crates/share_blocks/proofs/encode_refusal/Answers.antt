@@ -2,10 +2,7 @@
 use mathlib.Core.Path.{sym, ◌∙◌}
 use native.Mathlib.Nat.{mul-le-mul}
 use native.Mathlib.Omega.{arith}
-use Rattle.refusal.specs.Chain.{first}
-use Rattle.share_side.specs.Sides.{block_length, matrix_length, mask_length, matrix_tests}
 use Rattle.share_side.specs.Internal.{Small}
-use Rattle.share_blocks.specs.Internal.{encode_tests}
 use Rattle.share_blocks.proofs.Fitting.{within}
 use Rattle.share_blocks.proofs.encode_refusal.Goals as goal
 use Rattle.share_blocks.proofs.encode_refusal.Goals.{Else-beyond_limits}
@@ -13,10 +10,6 @@ use Rattle.share_blocks.proofs.encode_refusal.Goals.{Else-beyond_limits}
 -- past the first test, the side keeps the limits
 small : (c : Else-beyond_limits) → Small c.args.s
 small c = within _ (sym c.beyond_limits.ensures ∙ c.if-beyond_limits.false)
-
-pub returns-then-beyond_limits : goal.returns-then-beyond_limits
-unfolding first encode_tests
-returns-then-beyond_limits c = rw (← c.beyond_limits.ensures, c.if-beyond_limits.true)
 
 pub overflow_mul-block : goal.overflow_mul-block
 overflow_mul-block c = omega (arith, (small (goal.at.overflow_mul-block c).Else-beyond_limits).block)
@@ -29,22 +22,3 @@ overflow_mul-matrix-2 c = let s = small (goal.at.overflow_mul-matrix-2 c).Else-b
 
 pub overflow_mul-s : goal.overflow_mul-s
 overflow_mul-s c = let s = small (goal.at.overflow_mul-s c).Else-beyond_limits in omega (arith, mul-le-mul s.mask_count s.block)
-
-pub returns-then-xs-matrix : goal.returns-then-xs-matrix
-unfolding first encode_tests matrix_tests matrix_length mask_length block_length
-returns-then-xs-matrix c = rw (← c.beyond_limits.ensures, c.if-beyond_limits.false, c.if-xs-matrix.true)
-
-pub returns-then-not-all_below : goal.returns-then-not-all_below
-unfolding first encode_tests matrix_tests matrix_length mask_length block_length
-returns-then-not-all_below c =
-    rw (← c.beyond_limits.ensures, c.if-beyond_limits.false, c.if-xs-matrix.false, ← c.all_below.ensures, c.if-not-all_below.true)
-
-pub returns-then-not-all_below-2 : goal.returns-then-not-all_below-2
-unfolding first encode_tests matrix_tests matrix_length mask_length block_length
-returns-then-not-all_below-2 c =
-    rw (← c.beyond_limits.ensures, c.if-beyond_limits.false, c.if-xs-matrix.false, ← c.all_below.ensures, c.if-not-all_below.false, ← c.all_below-2.ensures, c.if-not-all_below-2.true)
-
-pub returns : goal.returns
-unfolding first encode_tests matrix_tests matrix_length mask_length block_length
-returns c =
-    rw (← c.beyond_limits.ensures, c.if-beyond_limits.false, c.if-xs-matrix.false, ← c.all_below.ensures, c.if-not-all_below.false, ← c.all_below-2.ensures, c.if-not-all_below-2.false)
