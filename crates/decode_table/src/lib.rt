@@ -11,7 +11,6 @@ ghost use Rattle.decode_table.specs.Internal.{piece_count, answers_added, piece_
 ghost use Rattle.decode_table.specs.Internal.{misfit as contracts_misfit, table_after, Weighted, There};
 
 use field::Modulus;
-use words::least;
 
 // The table: grid_rows by grid_columns blocks, each block_rows by block_columns.
 #[derive(Clone, Copy)]
@@ -39,6 +38,7 @@ fn sizes_test(s: Shape, count: usize) -> bool
 }
 
 // A size is not 1 to 4096, or a buffer is not of exact length.
+// Stays: the five numbers go together in this one call, and a struct of them is no plainer.
 fn misfit(s: Shape, count: usize, weights: usize, sums: usize, room: usize) -> bool
     ensures { result ≡ contracts_misfit s count weights sums room }
 {
@@ -55,12 +55,13 @@ fn answer_at(source: &[u32], index: u32, size: usize) -> &[u32]
     requires { size ≤ most_elements * most_elements }
     ensures { result.now ≡ drop (index * size) source.now }
 {
-    let start = least(index as usize * size, source.len());
+    let start = (index as usize * size).min(source.len());
     &source[start..]
 }
 
 // Adds to the sums the rows of the answers of some indices, each times its weight, two at a time. The weights lie a step apart,
 // the answers a size.
+// Stays: the parameters go together in this one call, and a struct of them is no plainer.
 fn add_answers(
     modulus: Modulus,
     sums: &mut [u64],
@@ -75,15 +76,13 @@ fn add_answers(
         sums.new ≡ answers_added (prime modulus) given ws step indices.now source.now size }
 {
     let pairs = indices.len() / 2;
-    let mut c = 0;
-    while c < pairs {
+    for c in 0..pairs {
         let i = c * 2;
         let weight = weights[i * step];
         let answer = answer_at(source, indices[i], size);
         let second = weights[(i + 1) * step];
         let next = answer_at(source, indices[i + 1], size);
         sums_modular::add_pair(modulus, sums, weight, answer, second, next);
-        c += 1;
     }
     let last = pairs * 2;
     if last < indices.len() {
@@ -93,64 +92,57 @@ fn add_answers(
     }
 }
 
-// The sums of a piece of the table, from the weights of its block and the answers' rows that are its own. There is a sum for
-// each element.
-fn piece_sums(
+// Answers, each with its weight for each block of a table.
+#[derive(Clone, Copy)]
+struct Combination<'a> {
     modulus: Modulus,
-    s: Shape,
-    piece: usize,
-    indices: &[u32],
-    weights: &[u32],
-    store: &[u32],
-    sums: &mut [u64],
-)
-    requires { Weighted s indices.now weights.now × piece < piece_count s }
-    ensures { let sum = piece_sum (prime modulus) s indices.now weights.now store.now piece in
-        sums.new ≡ tab (λ v. sum v % 2 ^ 64) (length sums.old) }
-{
-    let grid_columns = s.grid_columns;
-    let block_rows = s.block_rows;
-    let block_columns = s.block_columns;
-    let row = piece / grid_columns;
-    let block = row / block_rows * grid_columns + piece % grid_columns;
-    let offset = least(row % block_rows * block_columns, store.len());
-    sums::clear(sums);
-    add_answers(
-        modulus,
-        sums,
-        &weights[block..],
-        s.grid_rows * grid_columns,
-        indices,
-        &store[offset..],
-        block_rows * block_columns,
-    );
+    shape: Shape,
+    indices: &'a [u32],
+    weights: &'a [u32],
+    store: &'a [u32],
+    ghost weighted: { Weighted shape indices.now weights.now },
 }
 
-// The table of a call that fits, piece by piece.
-fn put_pieces(
-    modulus: Modulus,
-    s: Shape,
-    indices: &[u32],
-    weights: &[u32],
-    store: &[u32],
-    sums: &mut [u64],
-    table: &mut [u32],
-)
-    requires { Weighted s indices.now weights.now
-        × length sums.old ≡ s.block_columns
-        × length table.old ≡ piece_count s * s.block_columns }
-    ensures { let answers = store.now in
-        table.new ≡ pieces_of (prime modulus) s indices.now weights.now answers }
-{
-    let columns = s.block_columns;
-    let count = s.grid_rows * s.block_rows * s.grid_columns;
-    let mut piece = 0;
-    while piece < count {
-        let start = piece * columns;
-        let end = start + columns;
-        piece_sums(modulus, s, piece, indices, weights, store, sums);
-        sums::reduce_row(modulus, sums, &mut table[start..end]);
-        piece += 1;
+impl Combination<'_> {
+    // The sums of a piece of the table, from the weights of its block and the answers' rows that are its own. There is a sum for
+    // each element.
+    fn piece_sums(&self, piece: usize, sums: &mut [u64])
+        requires { piece < piece_count self.now.shape }
+        ensures { let a = self.now in let indices = a.indices.now in
+            let sum = piece_sum (prime a.modulus) a.shape indices a.weights.now a.store.now piece in
+            sums.new ≡ tab (λ v. sum v % 2 ^ 64) (length sums.old) }
+    {
+        let s = self.shape;
+        let row = piece / s.grid_columns;
+        let block = row / s.block_rows * s.grid_columns + piece % s.grid_columns;
+        let offset = (row % s.block_rows * s.block_columns).min(self.store.len());
+        sums::clear(sums);
+        add_answers(
+            self.modulus,
+            sums,
+            &self.weights[block..],
+            s.grid_rows * s.grid_columns,
+            self.indices,
+            &self.store[offset..],
+            s.block_rows * s.block_columns,
+        );
+    }
+
+    // The table, piece by piece.
+    fn put_pieces(&self, sums: &mut [u64], table: &mut [u32])
+        requires { let s = self.now.shape in
+            length sums.old ≡ s.block_columns × length table.old ≡ piece_count s * s.block_columns }
+        ensures { let a = self.now in
+            table.new ≡ pieces_of (prime a.modulus) a.shape a.indices.now a.weights.now a.store.now }
+    {
+        let s = self.shape;
+        let columns = s.block_columns;
+        for piece in 0..s.grid_rows * s.block_rows * s.grid_columns {
+            let start = piece * columns;
+            let end = start + columns;
+            self.piece_sums(piece, sums);
+            sums::reduce_row(self.modulus, sums, &mut table[start..end]);
+        }
     }
 }
 
@@ -170,7 +162,14 @@ pub fn table_pieces(
     ensures sums { sums.new ≡ zeros sums.old }
 {
     if !misfit(s, indices.len(), weights.len(), sums.len(), table.len()) {
-        put_pieces(modulus, s, indices, weights, store, sums, table);
+        let answers = Combination {
+            modulus,
+            shape: s,
+            indices,
+            weights,
+            store,
+        };
+        answers.put_pieces(sums, table);
     }
     sums::clear(sums);
 }

@@ -16,16 +16,13 @@ use Rattle.decode_table.proofs.add_answers.Goals.{After-add_row}
 
 pub loop-c-init : goal.loop-c-init
 loop-c-init c =
-    record { is = sums_none c.args.sums.now _ (λ v l. (c.type_inv.sums v).fits); short = omega arith }
+    sums_none c.args.sums.now _ (λ v l. (c.type_inv.sums v).fits)
 
 -- the answer of an index, times its weight
 own_term : (weights : List ℕ) (step : ℕ) (indices source : List ℕ) (size k : ℕ) (answer : List ℕ) → answer ≡ drop (get_or indices k 0 * size) source
     → (v : ℕ) → get_or weights (k * step) 0 * get_or answer v 0 ≡ answer_term weights step indices source size v k
 unfolding answer_term
 own_term weights step indices source size k answer e = row_entry source answer size (get_or indices k 0) e (get_or weights (k * step) 0)
-
-pub overflow_mul-i : goal.overflow_mul-i
-overflow_mul-i c = omega arith
 
 pub overflow_mul-weight : goal.overflow_mul-weight
 overflow_mul-weight c = let t = c.requires.weight (c.loop-c.c * 2) (omega arith) in omega arith
@@ -36,18 +33,6 @@ offset_bounds-weights-i c = let t = c.requires.weight (c.loop-c.c * 2) (omega ar
 pub bounds-weights-i : goal.bounds-weights-i
 bounds-weights-i c = let t = c.requires.weight (c.loop-c.c * 2) (omega arith) in omega arith
 
-pub offset_bounds-indices-i : goal.offset_bounds-indices-i
-offset_bounds-indices-i c = omega arith
-
-pub bounds-indices-i : goal.bounds-indices-i
-bounds-indices-i c = omega arith
-
-pub answer_at-answer-requires : goal.answer_at-answer-requires
-answer_at-answer-requires c = c.requires.short
-
-pub overflow_add-second : goal.overflow_add-second
-overflow_add-second c = omega arith
-
 pub overflow_mul-second : goal.overflow_mul-second
 overflow_mul-second c = let t = c.requires.weight (c.loop-c.c * 2 + 1) (omega arith) in omega arith
 
@@ -57,39 +42,14 @@ offset_bounds-weights-i-in-loop-c c = let t = c.requires.weight (c.loop-c.c * 2 
 pub bounds-weights-i-in-loop-c : goal.bounds-weights-i-in-loop-c
 bounds-weights-i-in-loop-c c = let t = c.requires.weight (c.loop-c.c * 2 + 1) (omega arith) in omega arith
 
-pub overflow_add-i : goal.overflow_add-i
-overflow_add-i c = omega arith
-
-pub offset_bounds-indices-i-in-loop-c : goal.offset_bounds-indices-i-in-loop-c
-offset_bounds-indices-i-in-loop-c c = omega arith
-
-pub bounds-indices-i-in-loop-c : goal.bounds-indices-i-in-loop-c
-bounds-indices-i-in-loop-c c = omega arith
-
-pub answer_at-next-requires : goal.answer_at-next-requires
-answer_at-next-requires c = c.requires.short
-
-pub overflow_add-c : goal.overflow_add-c
-overflow_add-c c = omega arith
-
-pub loop-c-smaller : goal.loop-c-smaller
-loop-c-smaller c = omega arith
-
 pub loop-c-preserved : goal.loop-c-preserved
 loop-c-preserved c =
     let a = c.args in
     let i = c.loop-c.c * 2 in
-    record {
-      is =
-          c.add_pair.ensures
-          ∙ pairs_more (pair_term (prime a.modulus)) (length a.indices.now) (answer_term a.weights.now a.step a.indices.now a.source.now a.size)
-          a.sums.now c.loop-c.sums c.loop-c.c c.loop-c.invariant.is _ _ (own_term a.weights.now a.step a.indices.now a.source.now a.size i _ c.answer_at-answer.ensures)
-          (omega arith) _ _ (own_term a.weights.now a.step a.indices.now a.source.now a.size (i + 1) _ c.answer_at-next.ensures);
-      short = omega arith;
-    }
-
-pub overflow_mul-last : goal.overflow_mul-last
-overflow_mul-last c = omega arith
+    c.add_pair.ensures
+    ∙ pairs_more (pair_term (prime a.modulus)) (length a.indices.now) (answer_term a.weights.now a.step a.indices.now a.source.now a.size)
+    a.sums.now c.loop-c.sums c.loop-c.c c.loop-c.invariant _ _ (own_term a.weights.now a.step a.indices.now a.source.now a.size i _ c.answer_at-answer.ensures)
+    (omega arith) _ _ (own_term a.weights.now a.step a.indices.now a.source.now a.size (i + 1) _ c.answer_at-next.ensures)
 
 pub overflow_mul-weight-then-last-indices : goal.overflow_mul-weight-then-last-indices
 overflow_mul-weight-then-last-indices c = let t = c.requires.weight (length c.args.indices.now / 2 * 2) (omega arith) in omega arith
@@ -99,15 +59,6 @@ offset_bounds-weights-last c = let t = c.requires.weight (length c.args.indices.
 
 pub bounds-weights-last : goal.bounds-weights-last
 bounds-weights-last c = let t = c.requires.weight (length c.args.indices.now / 2 * 2) (omega arith) in omega arith
-
-pub offset_bounds-indices-last : goal.offset_bounds-indices-last
-offset_bounds-indices-last c = omega arith
-
-pub bounds-indices-last : goal.bounds-indices-last
-bounds-indices-last c = omega arith
-
-pub answer_at-answer-requires-then-last-indices : goal.answer_at-answer-requires-then-last-indices
-answer_at-answer-requires-then-last-indices c = c.requires.short
 
 -- the sums after an odd last answer
 last : (c : After-add_row)
@@ -121,7 +72,7 @@ last c =
     c.add_row.ensures
     ∙ ap (λ (k : ℕ). plus_one q c.loop-c.sums (weight k) c.answer_at-answer-then-last-indices.result.now) half
     ∙ pairs_last (pair_term q) (length a.indices.now) (answer_term a.weights.now a.step a.indices.now a.source.now a.size)
-    a.sums.now c.loop-c.sums c.loop-c.c c.loop-c.invariant.is (weight c.loop-c.c) _
+    a.sums.now c.loop-c.sums c.loop-c.c c.loop-c.invariant (weight c.loop-c.c) _
     (own_term a.weights.now a.step a.indices.now a.source.now a.size (c.loop-c.c * 2) _ (c.answer_at-answer-then-last-indices.ensures ∙ ap (λ (k : ℕ). drop (get_or a.indices.now (k * 2) 0 * a.size) a.source.now) half))
     (omega arith)
 
@@ -142,9 +93,9 @@ returns-then-last-indices c =
 
 pub shape_of-sums-else-last-indices : goal.shape_of-sums-else-last-indices
 shape_of-sums-else-last-indices c =
-    ap length c.loop-c.invariant.is ∙ length_sums c.args.sums.now _ c.loop-c.c
+    ap length c.loop-c.invariant ∙ length_sums c.args.sums.now _ c.loop-c.c
 
 pub returns-else-last-indices : goal.returns-else-last-indices
 returns-else-last-indices c =
     let a = c.args in
-    c.loop-c.invariant.is ∙ all (prime a.modulus) a.sums.now a.weights.now a.step a.indices.now a.source.now a.size c.loop-c.c (omega arith)
+    c.loop-c.invariant ∙ all (prime a.modulus) a.sums.now a.weights.now a.step a.indices.now a.source.now a.size c.loop-c.c (omega arith)

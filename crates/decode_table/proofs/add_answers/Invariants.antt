@@ -5,7 +5,7 @@ use Rattle.sums_folded.proofs.Steps.{pair_terms}
 use lib.ListN.{length}
 use mathlib.Core.List.{List}
 use mathlib.Core.Path.{◌≡◌}
-use Prim.Native.Nat.{◌-◌, ◌≤◌, ℕ}
+use Prim.Native.Nat.{ℕ}
 use Rattle.field.specs.Modulus.{prime}
 use Rattle.sums.proofs.Steps.{sums_to}
 use Rattle.decode_table.proofs.add_answers.Given as goal
@@ -15,8 +15,4 @@ abbrev pub terms : ℕ → List ℕ → ℕ → List ℕ → List ℕ → ℕ �
 terms q weights step indices source size = pair_terms (pair_term q) (length indices) (answer_term weights step indices source size)
 
 abbrev pub invariant-loop-c : goal.invariant-loop-c
-invariant-loop-c l =
-    record { is : l.sums ≡ sums_to l.initial.sums (terms (prime l.modulus) l.weights l.step l.indices l.source l.size) l.c; short : l.c ≤ l.pairs }
-
-abbrev pub decreases-loop-c : goal.decreases-loop-c
-decreases-loop-c l = l.pairs - l.c
+invariant-loop-c l = l.sums ≡ sums_to l.initial.sums (terms (prime l.modulus) l.weights l.step l.indices l.source l.size) l.c

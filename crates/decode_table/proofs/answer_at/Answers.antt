@@ -11,4 +11,4 @@ overflow_mul-index c =
     omega (arith, mul-le-mul low c.requires)
 
 pub returns : goal.returns
-returns c = let a = c.args in rest_clipped a.source.now (a.index * a.size) c.least-start.result c.least-start.ensures
+returns c = let a = c.args in rest_clipped a.source.now (a.index * a.size) c.min-start.result c.min-start.ensures

@@ -10,11 +10,17 @@ use Rattle.decode_table.proofs.Fits.{fit_told, table_made, table_stays}
 use Rattle.decode_table.proofs.table_pieces.Goals as goal
 use Rattle.decode_table.proofs.table_pieces.Goals.{then-not-misfit, else-not-misfit}
 
+pub invariant_of-answers : goal.invariant_of-answers
+invariant_of-answers c =
+    let a = c.args in
+    let fit = fit_told a.s (length a.indices.now) (length a.weights.now) (length a.sums.now) (length a.table.now) (sym c.misfit.ensures ∙ c.if-not-misfit.true) in
+    record { weighted = record { sized = fit.sized; each = fit.each } }
+
 pub put_pieces-requires : goal.put_pieces-requires
 put_pieces-requires c =
     let a = c.args in
     let fit = fit_told a.s (length a.indices.now) (length a.weights.now) (length a.sums.now) (length a.table.now) (sym c.misfit.ensures ∙ c.if-not-misfit.true) in
-    (record { sized = fit.sized; each = fit.each }, fit.wide, fit.long)
+    (fit.wide, fit.long)
 
 pub returns : goal.returns
 unfolding zeros
