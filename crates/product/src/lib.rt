@@ -3,14 +3,15 @@
 
 ghost use Rattle.std.specs.Prelude.{◌≡◌, not, ◌||◌, ◌*◌, ◌≤◌, length};
 ghost use Rattle.algebra.specs.Lists.{AllBelow, all_below};
-ghost use Rattle.refusal.specs.Chain.{first, differs};
+ghost use Rattle.refusal.specs.Chain.{answered, differs};
 ghost use Rattle.refusal.specs.Limits.{most_elements};
 ghost use Rattle.field.specs.Modulus.{prime};
 ghost use Rattle.product.specs.Product.{product_of, product_tests, product_after};
 ghost use Rattle.product.specs.Internal.{Multiplicable, AtOnce};
 
-use field::{Modulus, Named};
-use words::{least, wide_product};
+use field::Modulus;
+use refusal::{MOST_ELEMENTS, Refusal};
+use words::wide_product;
 
 // The sizes of a product: rows by inner times inner by columns.
 #[derive(Clone, Copy)]
@@ -63,13 +64,11 @@ fn product_row(modulus: Modulus, row: &[u32], b: &[u32], sums: &mut [u64], out: 
 fn at_once(modulus: Modulus, inner: usize) -> usize
     ensures { AtOnce (prime modulus) inner result }
 {
-    if MOST_PACKED_PRIME < field::prime_of(modulus) {
-        return 1;
+    if MOST_PACKED_PRIME < field::prime_of(modulus) || MOST_PACKED < inner {
+        1
+    } else {
+        2
     }
-    if MOST_PACKED < inner {
-        return 1;
-    }
-    2
 }
 
 // One row of the product, or two at once: then A's rows are packed, and the sums taken apart. That the prime is then small is
@@ -102,8 +101,8 @@ fn few_rows(
     sums_packed::pack(part, &mut weights[..inner]);
     sums::clear(sums);
     sums_modular::add_rows(modulus, sums, &weights[..inner], b, columns);
-    sums_packed::unpack(modulus, false, sums, &mut out[..columns]);
-    sums_packed::unpack(modulus, true, sums, &mut out[columns..]);
+    sums_packed::unpack::<false>(modulus, sums, &mut out[..columns]);
+    sums_packed::unpack::<true>(modulus, sums, &mut out[columns..]);
 }
 
 // The product of two shares of the right lengths, a few rows at a time. There is a sum for each column.
@@ -118,28 +117,38 @@ fn multiply_rows(
     requires { Multiplicable (prime modulus) s a.now b.now (length out.old) × length sums.old ≡ s.columns }
     ensures { out.new ≡ product_of (prime modulus) s.rows s.inner s.columns a.now b.now }
 {
-    let rows = s.rows;
-    let inner = s.inner;
-    let columns = s.columns;
-    let step = at_once(modulus, inner);
-    let mut i = 0;
-    while i < rows {
-        let n = least(step, rows - i);
-        let left = i * inner;
-        let left_end = left + n * inner;
-        let start = i * columns;
-        let end = start + n * columns;
+    let step = at_once(modulus, s.inner);
+    for i in (0..s.rows).step_by(step) {
+        let n = step.min(s.rows - i);
+        let left = i * s.inner;
+        let left_end = left + n * s.inner;
+        let start = i * s.columns;
+        let end = start + n * s.columns;
         few_rows(
             modulus,
             n,
-            inner,
+            s.inner,
             &a[left..left_end],
             b,
             sums,
             &mut out[start..end],
         );
-        i += n;
     }
+}
+
+// The product of two shares of the right lengths, with so many sums, of which each column needs one.
+fn multiply_with<const SUMS: usize>(
+    modulus: Modulus,
+    s: Sizes,
+    a: &[u32],
+    b: &[u32],
+    out: &mut [u32],
+)
+    requires { Multiplicable (prime modulus) s a.now b.now (length out.old) × s.columns ≤ SUMS × SUMS ≤ most_elements }
+    ensures { out.new ≡ product_of (prime modulus) s.rows s.inner s.columns a.now b.now }
+{
+    let mut sums = [0u64; SUMS];
+    multiply_rows(modulus, s, a, b, &mut sums[..s.columns], out);
 }
 
 // The product of two shares of the right lengths, with few sums or the most.
@@ -147,18 +156,15 @@ fn multiply(modulus: Modulus, s: Sizes, a: &[u32], b: &[u32], out: &mut [u32])
     requires { Multiplicable (prime modulus) s a.now b.now (length out.old) }
     ensures { out.new ≡ product_of (prime modulus) s.rows s.inner s.columns a.now b.now }
 {
-    let columns = s.columns;
-    if columns <= FEW_COLUMNS {
-        let mut few = [0u64; FEW_COLUMNS];
-        multiply_rows(modulus, s, a, b, &mut few[..columns], out);
+    if s.columns <= FEW_COLUMNS {
+        multiply_with::<FEW_COLUMNS>(modulus, s, a, b, out);
     } else {
-        let mut many = [0u64; refusal::MOST_ELEMENTS];
-        multiply_rows(modulus, s, a, b, &mut many[..columns], out);
+        multiply_with::<MOST_ELEMENTS>(modulus, s, a, b, out);
     }
 }
 
-// The product of two shares: rows by inner times inner by columns. The output then holds it, or the call is refused by number
-// and the output stays as it was.
+// The product of two shares: rows by inner times inner by columns. The output then holds it, or the call is refused, and
+// the output stays as it was.
 pub fn product(
     modulus: u32,
     rows: u32,
@@ -167,26 +173,24 @@ pub fn product(
     a: &[u32],
     b: &[u32],
     out: &mut [u32],
-) -> u32
+) -> Result<(), Refusal>
     ensures number { let xs = a.now in let ys = b.now in
-        result ≡ first (product_tests modulus rows inner columns xs ys (length out.old)) }
+        result ≡ answered (product_tests modulus rows inner columns xs ys (length out.old)) tt }
     ensures block { let xs = a.now in let ys = b.now in
         out.new ≡ product_after modulus rows inner columns xs ys out.old }
 {
-    let Named::Is(named) = field::modulus_named(modulus) else {
-        return refusal::MODULUS;
-    };
+    let named = Modulus::try_from(modulus)?;
     if refusal::sizes_outside(rows, inner, columns) {
-        return refusal::SIZE;
+        return Err(Refusal::Size);
     }
     if refusal::over_block(rows, inner, columns) {
-        return refusal::BLOCK;
+        return Err(Refusal::Block);
     }
     if length_test(rows, inner, columns, a.len(), b.len(), out.len()) {
-        return refusal::LENGTH;
+        return Err(Refusal::Length);
     }
     if element_test(named, a, b) {
-        return refusal::ELEMENT;
+        return Err(Refusal::Element);
     }
     let sizes = Sizes {
         rows: rows as usize,
@@ -194,5 +198,5 @@ pub fn product(
         columns: columns as usize,
     };
     multiply(named, sizes, a, b, out);
-    0
+    Ok(())
 }

@@ -7,12 +7,11 @@ use native.Mathlib.Omega.{arith}
 use borrow.Author.Tests.{ltb-false, le-ltb}
 use lib.Dec.{ltb}
 use lib.ListN.{length, replicate}
-use lib.Seq.{length-take-le}
 use Rattle.algebra.proofs.Orders.{le_or_lt}
 use Rattle.algebra.proofs.Tests.{or_left}
 use Rattle.field.specs.Modulus.{prime}
 use Rattle.product.specs.Product.{product_of}
-use Rattle.product.proofs.Rows.{front_there, two_rows}
+use Rattle.product.proofs.Rows.{two_rows}
 use Rattle.product.proofs.few_rows.Goals as goal
 use Rattle.product.proofs.few_rows.Goals.{Else-count-large, Then-count-large}
 
@@ -53,32 +52,6 @@ two c =
     let fit = c.requires.0.room enough in
     let both : 2 ≡ a.count = omega arith in
     (fit.0, fit.1, both, omega (arith, ap (λ (k : ℕ). k * a.inner) both), omega (arith, ap (λ (k : ℕ). k * length a.sums.now) both))
-
-pub slice_bounds-weights-end : goal.slice_bounds-weights-end
-slice_bounds-weights-end c = (two (goal.at.slice_bounds-weights-end c).Else-count-large).1
-
-pub slice_bounds-pack-end : goal.slice_bounds-pack-end
-slice_bounds-pack-end c = sym (length-take-le _ _ (two (goal.at.slice_bounds-pack-end c).Else-count-large).1)
-
-pub slice_bounds-weights-end-2 : goal.slice_bounds-weights-end-2
-slice_bounds-weights-end-2 c =
-    front_there c.args.inner (replicate 127 0) c.pack.new.out c.weights-2-1.given (two (goal.at.slice_bounds-weights-end-2 c).Else-count-large).1
-
-pub slice_bounds-add_rows-end : goal.slice_bounds-add_rows-end
-slice_bounds-add_rows-end c =
-    sym (length-take-le _ _ (front_there c.args.inner (replicate 127 0) c.pack.new.out c.weights-2-1.given (two (goal.at.slice_bounds-add_rows-end c).Else-count-large).1))
-
-pub slice_bounds-unpack-end : goal.slice_bounds-unpack-end
-slice_bounds-unpack-end c = let t = two (goal.at.slice_bounds-unpack-end c).Else-count-large in omega arith
-
-pub slice_bounds-unpack-end-2 : goal.slice_bounds-unpack-end-2
-slice_bounds-unpack-end-2 c = let t = two (goal.at.slice_bounds-unpack-end-2 c).Else-count-large in sym (length-take-le _ _ (omega arith))
-
-pub slice_bounds-unpack-count : goal.slice_bounds-unpack-count
-slice_bounds-unpack-count c = let t = two (goal.at.slice_bounds-unpack-count c).Else-count-large in omega arith
-
-pub slice_bounds-unpack-start : goal.slice_bounds-unpack-start
-slice_bounds-unpack-start c = let t = two (goal.at.slice_bounds-unpack-start c).Else-count-large in omega arith
 
 pub returns : goal.returns
 returns c =

@@ -4,7 +4,7 @@ use Rattle.field.specs.Modulus.{prime}
 use Rattle.field.specs.declared.Modulus.{Modulus}
 use mathlib.Core.Path.{◌≡◌}
 use mathlib.Core.List.{◌++◌, List}
-use Prim.Native.Nat.{◌-◌, ◌*◌, ◌≤◌, ℕ, ◌%◌}
+use Prim.Native.Nat.{◌*◌, ℕ, ◌%◌, min}
 use lib.ListN.{length, drop}
 use Rattle.algebra.specs.Lists.{grid}
 use Rattle.product.proofs.multiply_rows.Given as goal
@@ -15,12 +15,8 @@ element modulus inner columns a b i j = product_entry inner columns a b i j % pr
 
 abbrev pub invariant-loop-i : goal.invariant-loop-i
 invariant-loop-i l =
+    let made = min l.i l.s.rows in
     record {
-      short : l.i ≤ l.rows;
-      wide : length l.sums ≡ l.columns;
-      same : length l.out ≡ length l.initial.out;
-      is : l.out ≡ grid (element l.modulus l.inner l.columns l.a l.b) l.i l.columns ++ drop (l.i * l.columns) l.initial.out;
+      wide : length l.sums ≡ l.s.columns;
+      is : l.out ≡ grid (element l.modulus l.s.inner l.s.columns l.a l.b) made l.s.columns ++ drop (made * l.s.columns) l.initial.out;
     }
-
-abbrev pub decreases-loop-i : goal.decreases-loop-i
-decreases-loop-i l = l.rows - l.i

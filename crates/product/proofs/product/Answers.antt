@@ -1,59 +1,70 @@
 -- `product::product` meets its contract.
-use mathlib.Core.Path.{◌≡◌, refl, sym, ◌∙◌}
-use native.Mathlib.Nat.{suc-ne-zero}
+use mathlib.Core.Path.{refl, sym, ◌∙◌}
 use lib.ListN.{length}
+use Rattle.std.proofs.lemmas.Result.{err_from_is_err_and}
 use Rattle.refusal.specs.Chain.{first}
-use Rattle.field.specs.Modulus.{prime, named}
-use Rattle.field.specs.declared.Modulus.{Modulus}
-use Rattle.field.specs.declared.Named.TheVariants.{Is}
-use Rattle.field.proofs.Moduli.{Known, known, none_named}
+use Rattle.refusal.specs.Numbers.{refusal_of, sheet}
+use Rattle.field.specs.Modulus.{prime}
+use Rattle.field.proofs.Moduli.{Known, known, is_named, is_unnamed}
 use Rattle.product.specs.Product.{product_tests}
 use Rattle.product.proofs.Outcomes.{refused, done, multiplicable}
 use Rattle.product.proofs.product.Goals as goal
-use Prim.Native.Nat.{ℕ}
+use Rattle.product.proofs.product.Goals.{In_ok-named}
 
-pub returns-in_default : goal.returns-in_default
-unfolding first product_tests
-returns-in_default c =
+pub returns-in_err-named : goal.returns-in_err-named
+unfolding first product_tests refusal_of sheet
+returns-in_err-named c =
     let a = c.args in
-    let unknown = none_named a.modulus (sym c.modulus_named.ensures ∙ c.in_default.is) in let all = refused a.modulus a.rows a.inner a.columns a.a.now a.b.now a.out.now 1 (λ z. suc-ne-zero 0 z) (rw unknown) in record { number = all.0; block = all.1 }
+    let p = err_from_is_err_and c.from_residual.result c.from_residual.ensures.1 in
+    let unknown = is_unnamed a.modulus _ (sym c.in_err-named.was ∙ c.try_from.ensures) in
+    rw (p.1, p.2, unknown.1) (refused a.modulus a.rows a.inner a.columns a.a.now a.b.now a.out.now 0 (rw unknown.0))
 
 -- the modulus is named, so its number is known
-known_prime : (n : ℕ) (m : Modulus) → named n ≡ Is m → Known n (prime m)
-known_prime n m e = known n e refl
+known-modulus : (c : In_ok-named) → Known c.args.modulus (prime c.in_ok-named.named)
+known-modulus c = known c.args.modulus (is_named c.args.modulus _ (sym c.in_ok-named.was ∙ c.try_from.ensures)) refl
 
 pub returns-then-sizes_outside : goal.returns-then-sizes_outside
-unfolding first product_tests
+unfolding first product_tests refusal_of sheet
 returns-then-sizes_outside c =
-    let a = c.args in let all = refused a.modulus a.rows a.inner a.columns a.a.now a.b.now a.out.now 2 (λ z. suc-ne-zero 1 z) (rw ((known_prime a.modulus c.in-Is.named (sym c.modulus_named.ensures ∙ c.in-Is.is)).is_number, ← c.sizes_outside.ensures, c.if-sizes_outside.true)) in record { number = all.0; block = all.1 }
+    let a = c.args in
+    let m = known-modulus (goal.at.returns-then-sizes_outside c).In_ok-named in
+    refused a.modulus a.rows a.inner a.columns a.a.now a.b.now a.out.now 1 (rw (m.is_number, ← c.sizes_outside.ensures, c.if-sizes_outside.true))
 
 pub returns-then-over_block : goal.returns-then-over_block
-unfolding first product_tests
+unfolding first product_tests refusal_of sheet
 returns-then-over_block c =
-    let a = c.args in let all = refused a.modulus a.rows a.inner a.columns a.a.now a.b.now a.out.now 6 (λ z. suc-ne-zero 5 z)
-    (rw ((known_prime a.modulus c.in-Is.named (sym c.modulus_named.ensures ∙ c.in-Is.is)).is_number, ← c.sizes_outside.ensures, c.if-sizes_outside.false, ← c.over_block.ensures, c.if-over_block.true)) in record { number = all.0; block = all.1 }
+    let a = c.args in
+    let m = known-modulus (goal.at.returns-then-over_block c).In_ok-named in
+    refused a.modulus a.rows a.inner a.columns a.a.now a.b.now a.out.now 5
+    (rw (m.is_number, ← c.sizes_outside.ensures, c.if-sizes_outside.false, ← c.over_block.ensures, c.if-over_block.true))
 
 pub returns-then-length_test : goal.returns-then-length_test
-unfolding first product_tests
+unfolding first product_tests refusal_of sheet
 returns-then-length_test c =
-    let a = c.args in let all = refused a.modulus a.rows a.inner a.columns a.a.now a.b.now a.out.now 13 (λ z. suc-ne-zero 12 z)
-    (rw ((known_prime a.modulus c.in-Is.named (sym c.modulus_named.ensures ∙ c.in-Is.is)).is_number, ← c.sizes_outside.ensures, c.if-sizes_outside.false, ← c.over_block.ensures, c.if-over_block.false, ← c.length_test.ensures, c.if-length_test.true)) in record { number = all.0; block = all.1 }
+    let a = c.args in
+    let m = known-modulus (goal.at.returns-then-length_test c).In_ok-named in
+    refused a.modulus a.rows a.inner a.columns a.a.now a.b.now a.out.now 12
+    (rw (m.is_number, ← c.sizes_outside.ensures, c.if-sizes_outside.false, ← c.over_block.ensures, c.if-over_block.false, ← c.length_test.ensures, c.if-length_test.true))
 
 pub returns-then-element_test : goal.returns-then-element_test
-unfolding first product_tests
+unfolding first product_tests refusal_of sheet
 returns-then-element_test c =
-    let a = c.args in let all = refused a.modulus a.rows a.inner a.columns a.a.now a.b.now a.out.now 14 (λ z. suc-ne-zero 13 z)
-    (rw ((known_prime a.modulus c.in-Is.named (sym c.modulus_named.ensures ∙ c.in-Is.is)).is_number, ← c.sizes_outside.ensures, c.if-sizes_outside.false, ← c.over_block.ensures, c.if-over_block.false, ← c.length_test.ensures, c.if-length_test.false, (known_prime a.modulus c.in-Is.named (sym c.modulus_named.ensures ∙ c.in-Is.is)).is, ← c.element_test.ensures, c.if-element_test.true)) in record { number = all.0; block = all.1 }
+    let a = c.args in
+    let m = known-modulus (goal.at.returns-then-element_test c).In_ok-named in
+    refused a.modulus a.rows a.inner a.columns a.a.now a.b.now a.out.now 13
+    (rw (m.is_number, ← c.sizes_outside.ensures, c.if-sizes_outside.false, ← c.over_block.ensures, c.if-over_block.false, ← c.length_test.ensures, c.if-length_test.false, m.is, ← c.element_test.ensures, c.if-element_test.true))
 
 pub multiply-requires : goal.multiply-requires
 multiply-requires c =
     let a = c.args in
-    multiplicable (prime c.in-Is.named) a.rows a.inner a.columns a.a.now a.b.now (length a.out.now) (sym c.sizes_outside.ensures ∙ c.if-sizes_outside.false)
+    multiplicable (prime c.in_ok-named.named) a.rows a.inner a.columns a.a.now a.b.now (length a.out.now) (sym c.sizes_outside.ensures ∙ c.if-sizes_outside.false)
     (sym c.over_block.ensures ∙ c.if-over_block.false) (sym c.length_test.ensures ∙ c.if-length_test.false) (sym c.element_test.ensures ∙ c.if-element_test.false)
 
 pub returns : goal.returns
 unfolding first product_tests
 returns c =
-    let a = c.args in let all = done a.modulus a.rows a.inner a.columns a.a.now a.b.now a.out.now
-    (rw ((known_prime a.modulus c.in-Is.named (sym c.modulus_named.ensures ∙ c.in-Is.is)).is_number, ← c.sizes_outside.ensures, c.if-sizes_outside.false, ← c.over_block.ensures, c.if-over_block.false, ← c.length_test.ensures, c.if-length_test.false, (known_prime a.modulus c.in-Is.named (sym c.modulus_named.ensures ∙ c.in-Is.is)).is, ← c.element_test.ensures, c.if-element_test.false))
-    _ (rw (known_prime a.modulus c.in-Is.named (sym c.modulus_named.ensures ∙ c.in-Is.is)).is c.multiply.ensures) in record { number = all.0; block = all.1 }
+    let a = c.args in
+    let m = known-modulus (goal.at.returns c).In_ok-named in
+    done a.modulus a.rows a.inner a.columns a.a.now a.b.now a.out.now
+    (rw (m.is_number, ← c.sizes_outside.ensures, c.if-sizes_outside.false, ← c.over_block.ensures, c.if-over_block.false, ← c.length_test.ensures, c.if-length_test.false, m.is, ← c.element_test.ensures, c.if-element_test.false))
+    _ (rw m.is c.multiply.ensures)
