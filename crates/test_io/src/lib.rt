@@ -1,10 +1,8 @@
 // Words and bytes of cases, from standard input and to standard output. A word is 4 bytes, big-endian.
 #![tactic(auto)]
 
-ghost use Rattle.std.specs.Prelude.{◌≡◌, ◌≤◌, length, drop};
+ghost use Rattle.std.specs.Prelude.{◌≡◌, ◌≤◌, length, take, drop};
 ghost use Rattle.io.specs.Counts.{IsPrefixLen};
-
-use words::least;
 
 // The file descriptor of standard input.
 pub const STDIN_FILENO: i32 = 0;
@@ -22,11 +20,11 @@ const MOST_WRITTEN: usize = 16384;
 // What stands in an output before a call.
 pub const FILLING: u32 = 0xA5A5A5A5;
 
-// Zeros for the bytes of words. Lending them needs their number alone.
-fn zero_bytes() -> [u8; MOST_BYTES]
-    ensures { 131584 ≡ length result }
+// Room for as many elements as the type says, all one value. Lending it needs their number alone.
+pub fn room<T: Copy, const N: usize>(value: T) -> [T; N]
+    ensures { N ≡ length result }
 {
-    [0; MOST_BYTES]
+    [value; N]
 }
 
 // Reads that many bytes to the front of the buffer, or as many as it has room for and the input has; tells how many. Past the
@@ -36,7 +34,7 @@ pub fn read_bytes(count: usize, out: &mut [u8]) -> usize
     ensures most { result ≤ count }
     ensures rest { drop count out.new ≡ drop count out.old }
 {
-    let n = least(count, out.len());
+    let n = count.min(out.len());
     io::read_full(STDIN_FILENO, &mut out[..n])
 }
 
@@ -47,17 +45,17 @@ pub fn read_words(count: usize, out: &mut [u32]) -> usize
     ensures most { result ≤ count }
     ensures rest { drop result out.new ≡ drop result out.old }
 {
-    let mut bytes = zero_bytes();
-    let most = least(least(count, out.len()), MOST_READ);
+    let mut bytes = room::<u8, MOST_BYTES>(0);
+    let most = count.min(out.len()).min(MOST_READ);
     let n = read_bytes(4 * most, &mut bytes);
     message_bytes::read_elements(&bytes[..n], out);
-    least(n / 4, out.len())
+    (n / 4).min(out.len())
 }
 
 // Writes words, at most 16384.
 pub fn put_words(words: &[u32]) {
     let mut bytes = io::large_buffer();
-    let size = 4 * least(words.len(), MOST_WRITTEN);
+    let size = 4 * words.len().min(MOST_WRITTEN);
     message_bytes::write_elements(words, &mut bytes);
     io::write_all(STDOUT_FILENO, &bytes[..size]);
 }
@@ -67,23 +65,20 @@ pub fn put_number(number: u32) {
     put_words(&[number]);
 }
 
-// How many words there are up to the last that is not the filling.
-fn filled_words(out: &[u32]) -> usize
-    ensures { IsPrefixLen result out.now }
+// How many elements there are up to the last that is not the filling.
+pub fn filled<T: Copy + PartialEq>(out: &[T], filling: T) -> usize
+    ensures most { result ≤ length out.now }
+    ensures front { result ≡ length (take result out.now) }
 {
-    let mut n = out.len();
-    while 0 < n {
-        if out[n - 1] != FILLING {
-            return n;
-        }
-        n -= 1;
+    match out.iter().rposition(|x| *x != filling) {
+        Some(last) => last + 1,
+        None => 0,
     }
-    0
 }
 
 // Writes an output of elements: how many there are up to the last that is not the filling, and these; at most 16384.
 pub fn put_output(out: &[u32]) {
-    let n = least(filled_words(out), MOST_WRITTEN);
+    let n = filled(out, FILLING).min(MOST_WRITTEN);
     put_number(n as u32);
     put_words(&out[..n]);
 }

@@ -10,9 +10,9 @@ use Rattle.test_io.proofs.read_bytes.Goals as goal
 pub returns : goal.returns
 returns c =
     let call = c.read_full in
-    let n = c.least-n.result in
+    let n = c.min-n.result in
     let a = c.args in
-    let few : n ≤ length a.out.now = omega (arith, c.least-n.ensures) in
+    let few : n ≤ length a.out.now = omega (arith, c.min-n.ensures) in
     let size : length call.new.buf ≡ length (take n a.out.now) = call.auto.buf in
-    let most : call.result ≤ a.count = omega (arith, call.ensures.0, size, length-take-le n a.out.now few, c.least-n.ensures) in
-    record { told = counts_front call.result call.new.buf _ call.ensures.0; most = most; rest = rest_kept n a.count call.new.buf a.out.now few size (omega (arith, c.least-n.ensures)) }
+    let most : call.result ≤ a.count = omega (arith, call.ensures.0, size, length-take-le n a.out.now few, c.min-n.ensures) in
+    record { told = counts_front call.result call.new.buf _ call.ensures.0; most = most; rest = rest_kept n a.count call.new.buf a.out.now few size (omega (arith, c.min-n.ensures)) }

@@ -10,6 +10,6 @@ returns c =
     record {
       told = counts _ _ (search rules);
       most = search rules;
-      rest = words_kept c.least-2.result read.result (take read.result read.new.out) _ c.read_elements.new.out
-          read.ensures.told.1 c.read_elements.ensures c.read_elements.auto.out c.least-2.ensures;
+      rest = words_kept c.min-2.result read.result (take read.result read.new.out) _ c.read_elements.new.out
+          read.ensures.told.1 c.read_elements.ensures c.read_elements.auto.out c.min-2.ensures;
     }
