@@ -2,18 +2,22 @@
 --
 --   unless_agree   two lists of tests that tell the same number, and the same made where it is 0: the same is left
 --   share_made     what encoding leaves is the share, or what was there
---   refused        a number that is not 0: the output stays
+--   kept           the call is refused: the output stays
+--   plan_refused   planning refuses
 --   host_refused   planning accepts, and test 12 holds
---   shared         planning accepts, and test 12 does not hold: what is then told and left, by the plan
+--   shared         planning accepts, and test 12 does not hold: what is then returned and left, by the plan
 use mathlib.Core.Path.{◌≡◌, refl, sym, ap, ap₂, ◌∙◌}
 use mathlib.Core.Bool.{true, false}
 use mathlib.Core.List.{List, ◌++◌}
 use Prim.Native.Nat.{ℕ, zero, suc}
-use native.Mathlib.Nat.{suc-ne-zero}
 use lib.ListN.{length}
+use Rattle.std.specs.Prelude.{Result, Ok, Err}
 use Rattle.algebra.specs.Lists.{AllBelow}
-use Rattle.refusal.specs.Chain.{Test, first, outcome, outside, unless_refused}
+use Rattle.refusal.specs.declared.Refusal.{Refusal}
+use Rattle.refusal.specs.Numbers.{refusal_of, sheet}
+use Rattle.refusal.specs.Chain.{Test, first, outcome, answered, refuse, outside, unless_refused}
 use Rattle.refusal.proofs.Chains.{first_hit, first_miss, unless_refused_lem}
+use Rattle.refusal.proofs.Answered.{answered_refused, is_refused, refused_on}
 use Rattle.field.specs.declared.Modulus.{Modulus}
 use Rattle.field.specs.Modulus.{prime}
 use Rattle.layout.specs.declared.Parameters.{Parameters}
@@ -22,7 +26,7 @@ use Rattle.layout.specs.Exponents.{Exponents, exponents}
 use Rattle.layout.specs.Internal.{Follows}
 use Rattle.plan.specs.declared.Job.{Job}
 use Rattle.plan.specs.declared.Plan.{Plan}
-use Rattle.plan.specs.Planning.{prime as planning_prime, plan_of, plan_tests}
+use Rattle.plan.specs.Planning.{prime as planning_prime, plan_of, plan_tests, planned}
 use Rattle.plan.proofs.Facts.{facts}
 use Rattle.plan.proofs.Then.{then_own, own_prime}
 use Rattle.share_side.specs.declared.Matrix.{Matrix}
@@ -55,19 +59,21 @@ share_made m f s small x w rest xs ms out is below =
     share_exact m f s small x w rest xs ms is (record { weights = below; matrix = t.below_matrix; masks = t.below_masks }))
 
 module _ (m : Matrix) (job : Job) (points : List ℕ) (host : ℕ) (xs ms out : List ℕ) where
-  pub refused : (k : ℕ) → (k ≡ 0 → ⊥) → first (share_tests m job points host xs ms (length out)) ≡ k
-      → (k ≡ first (share_tests m job points host xs ms (length out))) × (out ≡ share_after m job points host xs ms out)
+  pub kept : (r : Refusal) → Err r ≡ answered (share_tests m job points host xs ms (length out)) (tt {0}) → out ≡ share_after m job points host xs ms out
   unfolding share_after
-  refused k ne e = (sym e, sym (unless_refused_lem _ _ out (λ z. ne (sym e ∙ z))))
+  kept r e = sym (unless_refused_lem _ _ out (is_refused _ _ r e).0)
+
+  pub plan_refused : (r : Refusal) → Err r ≡ planned job points → Err r ≡ answered (share_tests m job points host xs ms (length out)) (tt {0})
+  unfolding planned share_tests
+  plan_refused = refused_on (plan_tests job points) _ (plan_of job) tt
 
   module _ (planned : first (plan_tests job points) ≡ 0) where
-    pub host_refused : outside 1 job.hosts host ≡ true
-        → (12 ≡ first (share_tests m job points host xs ms (length out))) × (out ≡ share_after m job points host xs ms out)
-    unfolding share_tests
-    host_refused e = refused 12 (suc-ne-zero 11) (then_own job points _ planned ∙ first_hit (outside 1 job.hosts host) 12 _ e)
+    pub host_refused : outside 1 job.hosts host ≡ true → Err Refusal.Host ≡ answered (share_tests m job points host xs ms (length out)) (tt {0})
+    unfolding share_tests refusal_of sheet
+    host_refused e = sym (answered_refused _ tt 11 (then_own job points _ planned ∙ first_hit (outside 1 job.hosts host) 12 _ e))
 
-    -- the number, and what the output holds, by the plan
-    module _ (inside : outside 1 job.hosts host ≡ false) (plan : Plan) (is : plan ≡ plan_of job) (r : ℕ) (after : List ℕ) where
+    -- what is returned, and what the output holds, by the plan
+    module _ (inside : outside 1 job.hosts host ≡ false) (plan : Plan) (is : plan ≡ plan_of job) (r : Result Unit Refusal) (after : List ℕ) where
       q : ℕ
       q = prime plan.modulus
 
@@ -91,9 +97,10 @@ module _ (m : Matrix) (job : Job) (points : List ℕ) (host : ℕ) (xs ms out : 
           ap₂ (λ (p : ℕ) (s : Side). share_of p (exponents plan.layout plan.parameters) s (point points host) xs ms) q_is side_is
           ∙ ap (λ (p : Plan). share_of (planning_prime job) (exponents p.layout p.parameters) (side m job) (point points host) xs ms) is
 
-      pub shared : r ≡ first (matrix_tests (prime plan.modulus) (plan_side m plan) xs ms (length out))
+      pub shared : r ≡ answered (matrix_tests (prime plan.modulus) (plan_side m plan) xs ms (length out)) tt
           → after ≡ unless_refused (matrix_tests (prime plan.modulus) (plan_side m plan) xs ms (length out))
           (share_of (prime plan.modulus) (exponents plan.layout plan.parameters) (plan_side m plan) (point points host) xs ms) out
-          → (r ≡ first (share_tests m job points host xs ms (length out))) × (after ≡ share_after m job points host xs ms out)
-      unfolding q share_after
-      shared number left = (number ∙ sym own_tests, left ∙ unless_agree _ _ _ _ out (sym own_tests) (λ z. own_share))
+          → (r ≡ answered (share_tests m job points host xs ms (length out)) tt) × (after ≡ share_after m job points host xs ms out)
+      unfolding q share_after answered
+      shared returned left =
+          (returned ∙ ap (λ (n : ℕ). outcome n (Ok tt) refuse) (sym own_tests), left ∙ unless_agree _ _ _ _ out (sym own_tests) (λ z. own_share))

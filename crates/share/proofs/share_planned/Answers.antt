@@ -9,7 +9,7 @@ use Rattle.field.specs.Modulus.{prime}
 use Rattle.field.proofs.Moduli.{prime_prime}
 use Rattle.share_side.specs.Internal.{Small, weight_count}
 use Rattle.share_side.proofs.Parts.{few_weights}
-use Rattle.share_blocks.proofs.Fitting.{only_matrix}
+use Rattle.share_blocks.proofs.Fitting.{matrix_answered}
 use Rattle.share.proofs.Sums.{weights_below}
 use Rattle.share.proofs.Outcomes.{share_made}
 use Rattle.share.proofs.share_planned.Goals as goal
@@ -35,7 +35,7 @@ returns c =
     let pos : 0 < q = omega (arith, (prime_prime a.plan.modulus).above_one) in
     let below = weights_below q c.strides_of-strides.result s a.x _ pos (below_drop q (replicate 80 0) (zeros-below q pos) (weight_count s)) in
     record {
-      number = rw (← c.side_of-s.ensures) (c.encode.ensures.number ∙ only_matrix s q _ _ _ own);
+      number = rw (← c.side_of-s.ensures) (c.encode.ensures.number ∙ matrix_answered s q _ _ _ own);
       block = rw (← c.side_of-s.ensures)
           (c.encode.ensures.block
           ∙ share_made a.plan.modulus c.strides_of-strides.ensures s own a.x _ _ _ _ a.out.now c.side_weights.ensures (rw c.side_weights.ensures below));
