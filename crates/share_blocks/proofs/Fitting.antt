@@ -2,6 +2,7 @@
 --
 --   within        a side that is not beyond the limits keeps them
 --   only_matrix   of a side that keeps the limits, only the matrix, the masks and the room for the block are tested
+--   matrix_answered  and only they tell what is returned
 --   Fit, fit      where no test holds, the limits are kept, and the tests of the matrix and masks have passed
 --   encodable     with 80 weights, all is there to encode
 use mathlib.Core.Path.{◌≡◌}
@@ -13,9 +14,10 @@ use lib.Dec.{ltb}
 use lib.ListN.{length}
 use borrow.Author.Tests.{ltb-false, le-ltb}
 use Rattle.algebra.proofs.Tests.{or_left, or_right, or_all}
-use Rattle.refusal.specs.Chain.{first, outside}
+use Rattle.refusal.specs.Chain.{first, answered, outside}
 use Rattle.refusal.specs.Limits.{most_elements}
 use Rattle.refusal.proofs.Chains.{first_miss, first_clear, inside_low, inside_high}
+use Rattle.refusal.proofs.Answered.{answered_miss}
 use Rattle.share_side.specs.declared.Side.{Side}
 use Rattle.share_side.specs.Sides.{block_length, matrix_tests}
 use Rattle.share_side.specs.Internal.{Small}
@@ -57,6 +59,10 @@ module _ (s : Side) where
     pub only_matrix : Small s → first (encode_tests q s xs ms room) ≡ first (matrix_tests q s xs ms room)
     unfolding encode_tests
     only_matrix small = first_miss (beyond s) 6 _ (not_beyond small)
+
+    pub matrix_answered : Small s → answered (encode_tests q s xs ms room) (tt {0}) ≡ answered (matrix_tests q s xs ms room) tt
+    unfolding encode_tests
+    matrix_answered small = answered_miss (beyond s) 6 _ tt (not_beyond small)
 
     pub fit : first (encode_tests q s xs ms room) ≡ 0 → Fit q s xs ms room
     unfolding encode_tests

@@ -1,19 +1,15 @@
 -- The parts of a list of weights.
 --
---   Part start count room  some elements of 4 bytes, from a start on, in a list that has room for so many
---   part                   they lie in it, and their offsets fit 64 bits
---   part_length            how many they are, as the part of a slice has them
+--   part_length            how many elements a part of a slice has
 --   weighed_part           the weights that are written over them
 --   few_weights            a side has at most 80 weights
---   row_part, masks_part   the weights of a row of blocks, and of the masks
+--   row_part, masks_part   a list that has room for the weights has the part of a row of blocks, and that of the masks
 --   weights_end            the masks' weights are written behind those of the blocks
 use mathlib.Core.Path.{◌≡◌, sym, ap, ap₂, ◌∙◌}
 use mathlib.Core.List.{List, ◌++◌, append_assoc}
-use Prim.Native.Nat.{ℕ, ◌+◌, ◌-◌, ◌*◌, ◌^◌, ◌<◌, ◌≤◌, min}
+use Prim.Native.Nat.{ℕ, ◌+◌, ◌-◌, ◌*◌, ◌<◌, ◌≤◌, min}
 use native.Mathlib.Nat.{mul-le-mul, add-sub_cancel_left}
 use native.Mathlib.Omega.{arith}
-use mir.Syntax.{w64}
-use mir.Val.{Fits}
 use lib.ListN.{length, take, drop, length-drop}
 use lib.Seq.{length-take-le, take_at, drop_at, drop-drop}
 use Rattle.algebra.specs.Lists.{tab}
@@ -23,22 +19,6 @@ use Rattle.layout.specs.declared.Series.{Series}
 use Rattle.layout.specs.declared.Strides.{Strides}
 use Rattle.share_side.specs.declared.Side.{Side}
 use Rattle.share_side.specs.Internal.{Small, weight_count, weight, weighed}
-
-pub record Part (start count room : ℕ) : Type 0 where
-  pub start_fits : Fits w64 start
-  pub end_fits : Fits w64 (start + count)
-  pub offset_fits : Fits w64 (start * 4)
-  pub ordered : start ≤ start + count
-  pub within : start + count ≤ room
-
-pub part : (start count room : ℕ) → start + count ≤ room → start + count < 2 ^ 60 → Part start count room
-part start count room h small = record {
-  start_fits = record { fits = omega arith };
-  end_fits = record { fits = omega arith };
-  offset_fits = record { fits = omega arith };
-  ordered = omega arith;
-  within = h;
-}
 
 pub part_length : (xs : List ℕ) (start count : ℕ) → start + count ≤ length xs → length (take (start + count - start) (drop start xs)) ≡ count
 part_length xs start count h = rw add-sub_cancel_left (length-take-le count (drop start xs) (omega (arith, length-drop start xs)))
@@ -59,15 +39,13 @@ module _ (s : Side) (small : Small s) where
   few_weights = omega (arith, mul-le-mul small.grid_rows small.grid_columns, small.mask_count)
 
   module _ (room : ℕ) (enough : weight_count s ≤ room) where
-    pub row_part : (k : ℕ) → k < s.grid_rows → Part (k * s.grid_columns) s.grid_columns room
+    pub row_part : (k : ℕ) → k < s.grid_rows → k * s.grid_columns + s.grid_columns ≤ room
     unfolding weight_count
-    row_part k h =
-        let end = row_end s.grid_columns h in
-        part (k * s.grid_columns) s.grid_columns room (omega arith) (omega (arith, few_weights))
+    row_part k h = let end = row_end s.grid_columns h in omega arith
 
-    pub masks_part : Part (s.grid_rows * s.grid_columns) s.mask_count room
+    pub masks_part : s.grid_rows * s.grid_columns + s.mask_count ≤ room
     unfolding weight_count
-    masks_part = part (s.grid_rows * s.grid_columns) s.mask_count room enough (omega (arith, few_weights))
+    masks_part = enough
 
 pub weights_end : (blocks masks old now row : List ℕ) (n count : ℕ) → length blocks ≡ n → now ≡ blocks ++ drop n old → row ≡ masks
     → take n now ++ (row ++ drop (n + count - n) (drop n now)) ≡ (blocks ++ masks) ++ drop (n + count) old

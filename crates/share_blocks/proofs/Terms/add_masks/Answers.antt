@@ -18,10 +18,10 @@ pub slice_bounds-add_rows-end : goal.slice_bounds-add_rows-end
 slice_bounds-add_rows-end c = let e = c.args.self.now.encodable in omega (arith, masks_part _ e.small _ e.weights)
 
 pub slice_bounds-add_rows-count-2 : goal.slice_bounds-add_rows-count-2
-slice_bounds-add_rows-count-2 c = let e = c.args.self.now.encodable in (mask_row _ e.small _ _ c.requires e.masks).within
+slice_bounds-add_rows-count-2 c = let e = c.args.self.now.encodable in mask_row _ e.small _ _ c.requires e.masks
 
 pub slice_bounds-add_rows-start-2 : goal.slice_bounds-add_rows-start-2
-slice_bounds-add_rows-start-2 c = let e = c.args.self.now.encodable in (mask_row _ e.small _ _ c.requires e.masks).within
+slice_bounds-add_rows-start-2 c = let e = c.args.self.now.encodable in mask_row _ e.small _ _ c.requires e.masks
 
 pub returns : goal.returns
 unfolding mask_terms paired_added

@@ -40,7 +40,7 @@ loop-i-preserved g c =
     rw add-sub_cancel_left (rows_more (element t) c.args.out.now c.loop-i.out _ columns i c.loop-i.invariant
     (c.reduce_row.ensures
     ∙ ap (λ (z : List ℕ). reduced (prime t.modulus) z part) (c.sum_row.ensures ∙ ap (tab f) wide)
-    ∙ reduced_tab (prime t.modulus) columns f part (part_length _ _ _ row.within)))
+    ∙ reduced_tab (prime t.modulus) columns f part (part_length _ _ _ row)))
 
 pub returns : goal.returns
 unfolding block_length encoded_block
