@@ -3,19 +3,21 @@
 --   moved_feed, moved_end, moved_other    the position after a line feed that a carriage return is before, after another line
 --                                         end, and after any other byte
 --   moved_short                           a byte moves line and column on by 1 at most
---   Counted                               the position after the first i bytes
+--   counted                               the position after some bytes
+--   Counted                               the first i of them, counted
 --   counted_none                          no byte
 --   counted_more                          one byte more
---   counted_all                           all the bytes before an offset
+--   counted_all                           all of them
+--   counted_is                            those before an offset
 use mathlib.Core.Path.{◌≡◌, refl, sym, ap, ◌∙◌}
 use mathlib.Core.Bool.{true, false}
 use mathlib.Core.Logic.{⊎_elim}
-use mathlib.Core.List.{List, [], ◌∷◌}
-use Prim.Native.Nat.{ℕ, suc, min, ◌+◌, ◌<◌, ◌≤◌}
+use mathlib.Core.List.{List, []}
+use Prim.Native.Nat.{ℕ, ◌+◌, ◌<◌, ◌≤◌}
 use native.Mathlib.Numerals.{add-one}
 use native.Mathlib.Omega.{arith}
-use lib.ListN.{length, get_or, take, drop, drop_of_length-le, length-take}
-use lib.Seq.{drop-cons, get_or-take}
+use lib.ListN.{length, get_or, take, drop, drop_of_length-le}
+use lib.Seq.{drop-cons}
 use Rattle.algebra.proofs.Tests.{by_test}
 use Rattle.text_numbers.specs.declared.Position.{Position}
 use Rattle.text_numbers.specs.Numbers.{ends_line}
@@ -48,30 +50,33 @@ module _ (before : ℕ) (position : Position) (b : ℕ) where
       (by_test (ends_line b)))
       (by_test (paired before b))
 
--- The first i bytes before the offset `at` of the text, counted.
-pub record Counted (text : List ℕ) (at before : ℕ) (position : Position) (i : ℕ) : Type 0 where
+-- The position after some bytes, from the front of a text on.
+pub counted : List ℕ → Position
+counted bytes = position_from 0 (record { line = 1; column = 1 }) bytes
+
+-- The first i of the bytes, counted.
+pub record Counted (bytes : List ℕ) (before : ℕ) (position : Position) (i : ℕ) : Type 0 where
   pub short : (position.line ≤ i + 1) × (position.column ≤ i + 1)
-  pub on : position_of text at ≡ position_from before position (drop i (take at text))
+  pub on : counted bytes ≡ position_from before position (drop i bytes)
 
-pub counted_none : (text : List ℕ) (at : ℕ) → Counted text at 0 (record { line = 1; column = 1 }) 0
-unfolding position_of
-counted_none text at = record { short = (omega arith, omega arith); on = refl }
+pub counted_none : (bytes : List ℕ) → Counted bytes 0 (record { line = 1; column = 1 }) 0
+unfolding counted
+counted_none bytes = record { short = (omega arith, omega arith); on = refl }
 
-module _ {text : List ℕ} {at before : ℕ} {position : Position} {i : ℕ} (c : Counted text at before position i) where
-  pub counted_more : i < min at (length text) → Counted text at (get_or text i 0) (moved before position (get_or text i 0)) (i + 1)
+module _ {bytes : List ℕ} {before : ℕ} {position : Position} {i : ℕ} (c : Counted bytes before position i) where
+  pub counted_more : i < length bytes → Counted bytes (get_or bytes i 0) (moved before position (get_or bytes i 0)) (i + 1)
   unfolding position_from
-  counted_more h =
-      let b = get_or text i 0 in
-      let inside : i < length (take at text) = omega (arith, length-take at text) in
-      let one : drop i (take at text) ≡ b ∷ drop (suc i) (take at text)
-      = drop-cons (take at text) i 0 inside ∙ ap (λ (x : ℕ). x ∷ drop (suc i) (take at text)) (get_or-take at text i 0 (omega arith)) in
-      record {
-        short = moved_short before position b (i + 1) c.short;
-        on = rw (add-one i) (c.on ∙ ap (position_from before position) one);
-      }
+  counted_more h = record {
+    short = moved_short before position (get_or bytes i 0) (i + 1) c.short;
+    on = rw (add-one i) (c.on ∙ ap (position_from before position) (drop-cons bytes i 0 h));
+  }
 
-  pub counted_all : i ≡ min at (length text) → position ≡ position_of text at
+  pub counted_all : i ≡ length bytes → position ≡ counted bytes
   unfolding position_from
   counted_all e =
-      let past : drop i (take at text) ≡ [] = drop_of_length-le (take at text) {i = i} (omega (arith, length-take at text)) in
+      let past : drop i bytes ≡ [] = drop_of_length-le bytes {i = i} (omega arith) in
       sym (c.on ∙ ap (position_from before position) past)
+
+pub counted_is : (text : List ℕ) (at : ℕ) → counted (take at text) ≡ position_of text at
+unfolding counted position_of
+counted_is text at = refl

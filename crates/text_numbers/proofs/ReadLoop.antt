@@ -6,6 +6,7 @@
 --   read_fault                a byte that is a fault
 --   read_all                  all the bytes
 use mathlib.Core.Path.{◌≡◌, refl, sym, ap, ◌∙◌}
+use Rattle.std.proofs.Common.{Ok, Err}
 use mathlib.Core.Bool.{true, false}
 use mathlib.Core.List.{List, [], ◌∷◌, ◌++◌, append-nil, append_assoc}
 use Prim.Native.Nat.{ℕ, suc, ◌+◌, ◌-◌, ◌<◌, ◌≤◌}
@@ -15,8 +16,7 @@ use lib.ListN.{length, get_or, take, drop, set, take-append-drop, length-append,
 use lib.Seq.{length-take-le, take-suc-set, drop-set-lt, drop-drop}
 use borrow.Author.Tests.{le-leb, lt-leb}
 use Rattle.text_numbers.specs.declared.Part.{Part}
-use Rattle.text_numbers.specs.declared.ReadOutcome.{ReadOutcome}
-use Rattle.text_numbers.specs.Numbers.{apart, fits, after, ends, ended, taken, reached, found, closed, reach, numbers_of, read_outcome, front}
+use Rattle.text_numbers.specs.Numbers.{apart, value_of, fits, after, ends, ended, taken, reached, found, closed, reach, numbers_of, read_outcome, front}
 use Rattle.text_numbers.proofs.Texts.{closed_byte}
 use Rattle.text_numbers.proofs.Steps.{ended_one, ended_none, taken_one, taken_none, reached_on, found_on, reached_off, found_off}
 
@@ -49,7 +49,7 @@ module _ {text out₀ out : List ℕ} {part : Part} {n i : ℕ} (r : Read-on tex
   whole e = rw (e, many) (sym (ap (λ (xs : List ℕ). take n out ++ xs) (sym r.old) ∙ take-append-drop n out))
 
   pub read_all : i ≡ length text + 1
-      → (ReadOutcome.Read n ≡ read_outcome text (length out₀)) × (out ≡ front (numbers_of text (length out₀)) out₀)
+      → (Ok n ≡ read_outcome text (length out₀)) × (out ≡ front (numbers_of text (length out₀)) out₀)
   unfolding read_outcome closed reached found
   read_all e =
       let past : drop i (closed text) ≡ [] = drop_of_length-le (closed text) {i = i} (omega (arith, length-append text (10 ∷ []))) in
@@ -97,7 +97,7 @@ module _ {text out₀ out : List ℕ} {part : Part} {n i : ℕ} (r : Read-on tex
       }
 
   pub read_number : fits part b ≡ true → ends part b ≡ true → n < length out₀
-      → Read-on text out₀ (set out n part.value) (after part b) (n + 1) (i + 1)
+      → Read-on text out₀ (set out n (value_of part)) (after part b) (n + 1) (i + 1)
   unfolding rest left
   read_number ok e h =
       let t = taken_one part left b ok e (omega arith) in
@@ -106,14 +106,14 @@ module _ {text out₀ out : List ℕ} {part : Part} {n i : ℕ} (r : Read-on tex
       let inside : n < length out = omega (arith, r.same) in
       record {
         room = omega arith;
-        same = length-set out n part.value ∙ r.same;
-        old = drop-set-lt (n + 1) out n part.value (omega arith) ∙ sym (drop-drop 1 n out) ∙ ap (drop 1) r.old ∙ drop-drop 1 n out₀;
+        same = length-set out n (value_of part) ∙ r.same;
+        old = drop-set-lt (n + 1) out n (value_of part) (omega arith) ∙ sym (drop-drop 1 n out) ∙ ap (drop 1) r.old ∙ drop-drop 1 n out₀;
         to = rw (add-one, add-one) (rw (one, less) at (to_on t));
-        numbers = rw (add-one, add-one, take-suc-set out n part.value inside) (rw (one, less) at (numbers_on t));
+        numbers = rw (add-one, add-one, take-suc-set out n (value_of part) inside) (rw (one, less) at (numbers_on t));
       }
 
   pub read_fault : taken part (length out₀ - n) b ≡ false
-      → (ReadOutcome.Fault i ≡ read_outcome text (length out₀)) × (out ≡ front (numbers_of text (length out₀)) out₀)
+      → (Err (record { at = i }) ≡ read_outcome text (length out₀)) × (out ≡ front (numbers_of text (length out₀)) out₀)
   unfolding read_outcome left
   read_fault off =
       let here : reach text (length out₀) ≡ i = r.to ∙ rw (bytes, reached_off part left b rest off) (omega arith) in

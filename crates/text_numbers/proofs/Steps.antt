@@ -1,57 +1,32 @@
 -- Laws of one byte's reading.
 --
---   is_digit_lem                                   the byte of a digit is 48 to 57
---   fits_comment, fits_digit, fits_other       what fits in a comment; and outside, a digit, and any other byte
---   after_comment, after_digit, after_other    the part after it
+--   fits_digit, after_digit                    where a digit fits, and the part after it
 --   ended_one, ended_none                      the number that a byte ends, and where it ends none
 --   taken_one, taken_none                      such a byte, where it is no fault
 --   refused_byte, refused_room                 a fault: the byte does not fit, or the number has no room
 --   reached_on, found_on                       what is read after a byte that is no fault
 --   reached_off, found_off                     at a fault nothing
-use mathlib.Core.Path.{◌≡◌, sym, subst}
-use mathlib.Core.Bool.{true, false, not}
+use mathlib.Core.Path.{◌≡◌}
+use mathlib.Core.Bool.{true, false}
 use mathlib.Core.List.{List, [], ◌∷◌, ◌++◌}
-use Prim.Native.Nat.{ℕ, suc, ◌-◌, ◌^◌, ◌<◌, ◌≤◌}
+use Prim.Native.Nat.{ℕ, suc, ◌-◌, ◌^◌, ◌<◌}
 use native.Mathlib.Omega.{arith}
-use lib.Dec.{T, leb, ltb, eqb, leb→le}
+use lib.Dec.{ltb}
 use lib.ListN.{length}
 use borrow.Author.Tests.{le-leb, lt-leb}
-use Rattle.algebra.proofs.Tests.{and_left, and_right}
 use Rattle.text_numbers.specs.declared.Part.{Part}
-use Rattle.text_numbers.specs.Numbers.{within, is_digit, ends_line, sets_apart, apart, number, grown, fits, after, ends, ended, taken, reached, found}
-
-pub is_digit_lem : (b : ℕ) → is_digit b ≡ true → (48 ≤ b) × (b ≤ 57)
-unfolding is_digit within
-is_digit_lem b e =
-    let t : T (is_digit b) = subst T (sym e) tt in
-    (leb→le 48 b (and_left (leb 48 b) (leb b 57) t), leb→le b 57 (and_right (leb 48 b) (leb b 57) t))
+use Rattle.text_numbers.specs.Numbers.{is_digit, number, in_comment, value_of, grown, fits, after, ends, ended, taken, reached, found}
 
 module _ (part : Part) (b : ℕ) where
-  pub fits_comment : part.comment ≡ true → fits part b ≡ true
-  unfolding fits
-  fits_comment c = rw c
-
-  pub fits_digit : part.comment ≡ false → is_digit b ≡ true → fits part b ≡ ltb (grown part b) (2 ^ 32)
+  pub fits_digit : in_comment part ≡ false → is_digit b ≡ true → fits part b ≡ ltb (grown part b) (2 ^ 32)
   unfolding fits
   fits_digit c d = rw (c, d)
 
-  pub fits_other : part.comment ≡ false → is_digit b ≡ false → fits part b ≡ sets_apart b
-  unfolding fits
-  fits_other c d = rw (c, d)
-
-  pub after_comment : part.comment ≡ true → after part b ≡ apart (not (ends_line b))
-  unfolding after
-  after_comment c = rw c
-
-  pub after_digit : part.comment ≡ false → is_digit b ≡ true → after part b ≡ number (grown part b)
+  pub after_digit : in_comment part ≡ false → is_digit b ≡ true → after part b ≡ number (grown part b)
   unfolding after
   after_digit c d = rw (c, d)
 
-  pub after_other : part.comment ≡ false → is_digit b ≡ false → after part b ≡ apart (eqb b 35)
-  unfolding after
-  after_other c d = rw (c, d)
-
-  pub ended_one : ends part b ≡ true → ended part b ≡ part.value ∷ []
+  pub ended_one : ends part b ≡ true → ended part b ≡ value_of part ∷ []
   unfolding ended
   ended_one e = rw e
 

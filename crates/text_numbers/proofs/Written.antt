@@ -3,6 +3,7 @@
 --   Leads p bs ns q    from the part p the bytes bs have no fault, end the numbers ns, where these have room, and lead to q
 --   read-back          the text of numbers below 2^32, where these have room, reads back as exactly these numbers
 use mathlib.Core.Path.{◌≡◌, refl, ap, ◌∙◌}
+use Rattle.std.proofs.Common.{Ok}
 use mathlib.Core.Bool.{true, false}
 use mathlib.Core.Logic.{⊎_elim}
 use mathlib.Core.List.{List, [], ◌∷◌, ◌++◌, append-nil, append_assoc}
@@ -16,8 +17,7 @@ use Rattle.algebra.proofs.Orders.{le_or_lt}
 use Rattle.text.specs.Decimal.{digit, spell, decimal}
 use Rattle.text.proofs.Decimals.{spell_last, spell_more, tenth}
 use Rattle.text_numbers.specs.declared.Part.{Part}
-use Rattle.text_numbers.specs.declared.ReadOutcome.{ReadOutcome}
-use Rattle.text_numbers.specs.Numbers.{within, is_digit, sets_apart, apart, number, grown, fits, after, ends, ended, taken, reached, found, closed, reach, numbers_of, read_outcome, written}
+use Rattle.text_numbers.specs.Numbers.{within, is_digit, sets_apart, apart, number, in_comment, has_digits, value_of, grown, fits, after, ends, ended, taken, reached, found, closed, reach, numbers_of, read_outcome, written}
 use Rattle.text_numbers.proofs.Steps.{fits_digit, after_digit, ended_none, reached_on, found_on}
 
 record Leads (p : Part) (bs ns : List ℕ) (q : Part) : Type 0 where
@@ -54,21 +54,21 @@ leads_on {p} {q} {r} xs ys ms ns f g =
           ∙ ap (λ (ks : List ℕ). ms ++ ks) (rw less at (g.numbers (room - length ms) rest (omega (arith, many)))));
     }
 
-module _ (p : Part) (d : ℕ) (outside : p.comment ≡ false) (one : d < 10) where
+module _ (p : Part) (d : ℕ) (outside : in_comment p ≡ false) (one : d < 10) where
   is_one : is_digit (digit d) ≡ true
   unfolding is_digit within digit
   is_one = rw (le-leb 48 (48 + d) (omega arith), le-leb (48 + d) 57 (omega arith))
 
-  grown_one : grown p (digit d) ≡ p.value * 10 + d
+  grown_one : grown p (digit d) ≡ value_of p * 10 + d
   unfolding grown digit
   grown_one = omega arith
 
   no_end : ends p (digit d) ≡ false
   unfolding ends
-  no_end = rw is_one (⊎_elim (λ t. rw t) (λ f. rw f) (by_test p.begun))
+  no_end = rw is_one (⊎_elim (λ t. rw t) (λ f. rw f) (by_test (has_digits p)))
 
   -- one digit more
-  leads_digit : (n : ℕ) → p.value * 10 + d ≡ n → n < 2 ^ 32 → Leads p (digit d ∷ []) [] (number n)
+  leads_digit : (n : ℕ) → value_of p * 10 + d ≡ n → n < 2 ^ 32 → Leads p (digit d ∷ []) [] (number n)
   leads_digit n is small =
       let more : grown p (digit d) ≡ n = grown_one ∙ is in
       let fit : fits p (digit d) ≡ true = fits_digit p (digit d) outside is_one ∙ lt-ltb (grown p (digit d)) (2 ^ 32) (omega arith) in
@@ -77,7 +77,7 @@ module _ (p : Part) (d : ℕ) (outside : p.comment ≡ false) (one : d < 10) whe
 
 -- the digits of a number
 leads_spell : (k n : ℕ) → n < 2 ^ 32 → n < 10 ^ suc k → Leads (apart false) (spell (suc k) n) [] (number n)
-unfolding apart number
+unfolding apart number in_comment has_digits value_of
 leads_spell zero n small h =
     let one : n < 10 = omega arith in
     rw (spell_last zero n one) (leads_digit (apart false) n refl one n (omega arith) small)
@@ -95,11 +95,11 @@ leads_decimal n h = leads_spell 9 n h (omega arith)
 
 -- the line feed after a number, and after the text
 leads_feed : (v : ℕ) → Leads (number v) (10 ∷ []) (v ∷ []) (apart false)
-unfolding within is_digit sets_apart apart number fits after ends ended
+unfolding within is_digit sets_apart apart number in_comment has_digits value_of fits after ends ended
 leads_feed v = leads_byte (number v) 10 refl
 
 leads_end : Leads (apart false) (10 ∷ []) [] (apart false)
-unfolding within is_digit sets_apart apart fits after ends ended
+unfolding within is_digit sets_apart apart in_comment has_digits value_of fits after ends ended
 leads_end = leads_byte (apart false) 10 refl
 
 leads_written : (ns : List ℕ) → AllBelow (2 ^ 32) ns → Leads (apart false) (written ns) ns (apart false)
@@ -110,7 +110,7 @@ leads_written (n ∷ ns) below =
     (leads_on (10 ∷ []) (written ns) (n ∷ []) ns (leads_feed n) (leads_written ns (λ i l. below (suc i) (omega arith))))
 
 pub read_back : (ns : List ℕ) (room : ℕ) → AllBelow (2 ^ 32) ns → length ns ≤ room
-    → (read_outcome (written ns) room ≡ ReadOutcome.Read (length ns)) × (numbers_of (written ns) room ≡ ns)
+    → (read_outcome (written ns) room ≡ Ok (length ns)) × (numbers_of (written ns) room ≡ ns)
 unfolding read_outcome reach numbers_of closed reached found
 read_back ns room below h =
     let text = leads_written ns below in

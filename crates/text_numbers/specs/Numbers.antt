@@ -11,8 +11,11 @@
 --   is_digit b              == b is the byte of a digit
 --   ends_line b             == b is a line feed or a carriage return
 --   sets_apart b            == b may stand between numbers: white space, or the # of a comment
---   Part                   == where in a text a byte stands: whether in a comment, whether after some digits of a number,
---                             and their value, or 0
+--   Part                   == where in a text a byte stands: in a comment, in none and in no number, or after some digits of a
+--                             number, with their value
+--   in_comment part        == the part is in a comment
+--   has_digits part        == the part is after some digits of a number
+--   value_of part          == their value, or 0
 --   apart comment          == a part outside numbers: in a comment, or in none
 --   number v               == a part after the digits of a number, of value v
 --   grown part b           == the value with the digit b after the others
@@ -29,9 +32,10 @@
 --   read_outcome text room  == what reading a text returns: how many numbers, or the offset of the first fault
 --   front ns out           == the output with the numbers ns at its front, and past them what it held
 --   written ns             == the text of the numbers ns: each in decimal, with a line feed after it
-use Rattle.std.specs.Prelude.{Bool, true, false, not, cond, ◌&&◌, ◌||◌, List, [], ◌∷◌, ◌++◌, ℕ, suc, ◌+◌, ◌-◌, ◌*◌, ◌^◌, ltb, leb, eqb, length, drop}
+use Rattle.std.specs.Prelude.{Bool, true, false, not, cond, ◌&&◌, ◌||◌, List, [], ◌∷◌, ◌++◌, ℕ, suc, ◌+◌, ◌-◌, ◌*◌, ◌^◌, ltb, leb, eqb, length, drop, Result, Ok, Err}
+use Rattle.text_numbers.specs.declared.Fault.{Fault}
 use Rattle.text_numbers.specs.declared.Part.{Part}
-use Rattle.text_numbers.specs.declared.ReadOutcome.{ReadOutcome}
+use Rattle.text_numbers.specs.declared.Part.TheVariants.{Comment, Gap, Number}
 use Rattle.text.specs.Decimal.{decimal}
 
 unfoldable pub within : ℕ → ℕ → ℕ → Bool
@@ -47,26 +51,41 @@ unfoldable pub sets_apart : ℕ → Bool
 sets_apart b = eqb b 32 || eqb b 9 || eqb b 10 || eqb b 13 || eqb b 35
 
 unfoldable pub apart : Bool → Part
-apart comment = record { comment = comment; begun = false; value = 0 }
+apart comment = cond comment Comment Gap
 
 unfoldable pub number : ℕ → Part
-number v = record { comment = false; begun = true; value = v }
+number v = Number v
+
+unfoldable pub in_comment : Part → Bool
+in_comment Comment = true
+in_comment Gap = false
+in_comment (Number v) = false
+
+unfoldable pub has_digits : Part → Bool
+has_digits Comment = false
+has_digits Gap = false
+has_digits (Number v) = true
+
+unfoldable pub value_of : Part → ℕ
+value_of Comment = 0
+value_of Gap = 0
+value_of (Number v) = v
 
 unfoldable pub grown : Part → ℕ → ℕ
-grown part b = part.value * 10 + (b - 48)
+grown part b = value_of part * 10 + (b - 48)
 
 unfoldable pub fits : Part → ℕ → Bool
-fits part b = part.comment || cond (is_digit b) (ltb (grown part b) (2 ^ 32)) (sets_apart b)
+fits part b = in_comment part || cond (is_digit b) (ltb (grown part b) (2 ^ 32)) (sets_apart b)
 
 unfoldable pub after : Part → ℕ → Part
 after part b =
-    cond part.comment (apart (not (ends_line b))) (cond (is_digit b) (number (grown part b)) (apart (eqb b 35)))
+    cond (in_comment part) (apart (not (ends_line b))) (cond (is_digit b) (number (grown part b)) (apart (eqb b 35)))
 
 unfoldable pub ends : Part → ℕ → Bool
-ends part b = part.begun && not (is_digit b)
+ends part b = has_digits part && not (is_digit b)
 
 unfoldable pub ended : Part → ℕ → List ℕ
-ended part b = cond (ends part b) (part.value ∷ []) []
+ended part b = cond (ends part b) (value_of part ∷ []) []
 
 unfoldable pub taken : Part → ℕ → ℕ → Bool
 taken part room b = fits part b && leb (length (ended part b)) room
@@ -88,9 +107,9 @@ reach text room = reached (apart false) room (closed text)
 unfoldable pub numbers_of : List ℕ → ℕ → List ℕ
 numbers_of text room = found (apart false) room (closed text)
 
-unfoldable pub read_outcome : List ℕ → ℕ → ReadOutcome
+unfoldable pub read_outcome : List ℕ → ℕ → Result ℕ Fault
 read_outcome text room =
-    cond (leb (reach text room) (length text)) (ReadOutcome.Fault (reach text room)) (ReadOutcome.Read (length (numbers_of text room)))
+    cond (leb (reach text room) (length text)) (Err (record { at = reach text room })) (Ok (length (numbers_of text room)))
 
 unfoldable pub front : List ℕ → List ℕ → List ℕ
 front ns out = ns ++ drop (length ns) out

@@ -5,7 +5,7 @@
 -- Offsets are counted from 0.
 --
 --   is_letter b                  == b is the byte of a letter, or _
---   Before                      == what stands before a byte: whether a comment, whether a token that goes on
+--   Before                      == what stands before a byte: a comment, a token that goes on, or neither
 --   gap                         == neither: what sets apart, or the front of the text
 --   next before b               == what stands before the byte after b
 --   begins words before b       == b begins a token; where words are looked for, a word
@@ -17,20 +17,24 @@
 --   mark_length text             == how many bytes of the UTF-8 mark EF BB BF the text begins with: 3, or 0
 use Rattle.std.specs.Prelude.{Bool, true, false, not, cond, ◌&&◌, ◌||◌, List, [], ◌∷◌, ℕ, suc, eqb, get_or}
 use Rattle.text_numbers.specs.declared.Before.{Before}
+use Rattle.text_numbers.specs.declared.Before.TheVariants.{Comment, Token, Gap}
 use Rattle.text_numbers.specs.Numbers.{within, ends_line, sets_apart}
 
 unfoldable pub is_letter : ℕ → Bool
 is_letter b = within 65 90 b || within 97 122 b || eqb b 95
 
 unfoldable pub gap : Before
-gap = record { comment = false; token = false }
+gap = Gap
 
 unfoldable pub next : Before → ℕ → Before
-next before b =
-    cond before.comment (record { comment = not (ends_line b); token = false }) (record { comment = eqb b 35; token = not (sets_apart b) })
+next Comment b = cond (ends_line b) Gap Comment
+next Token b = cond (eqb b 35) Comment (cond (sets_apart b) Gap Token)
+next Gap b = cond (eqb b 35) Comment (cond (sets_apart b) Gap Token)
 
 unfoldable pub begins : Bool → Before → ℕ → Bool
-begins words before b = cond (before.comment || before.token) false (cond words (is_letter b) (not (sets_apart b)))
+begins words Comment b = false
+begins words Token b = false
+begins words Gap b = cond words (is_letter b) (not (sets_apart b))
 
 unfoldable pub first_from : Bool → Before → List ℕ → ℕ
 first_from words before [] = 0

@@ -1,67 +1,42 @@
 -- `text_numbers::read_numbers` meets its contract.
-use mathlib.Core.Path.{◌≡◌, sym, ◌∙◌}
-use mathlib.Core.Bool.{true}
-use native.Mathlib.Omega.{arith}
-use Rattle.text_numbers.specs.Numbers.{apart, fits, ends}
+use Rattle.std.proofs.Common.{◌+◌, sym, arith}
+use Rattle.text_numbers.specs.Numbers.{apart}
 use Rattle.text_numbers.proofs.Steps.{refused_byte, refused_room}
-use Rattle.text_numbers.proofs.ReadLoop.{read_none, read_more, read_number, read_fault, read_all}
+use Rattle.text_numbers.proofs.ReadLoop.{Read-on, read_none, read_more, read_number, read_fault, read_all}
 use Rattle.text_numbers.proofs.read_numbers.Goals as goal
-use Rattle.text_numbers.proofs.read_numbers.Goals.{Else-not-fits_in, Then-ends_number, then-ends_number+else-n-out, else-ends_number}
+use Rattle.text_numbers.proofs.read_numbers.Goals.{After-part_after-part, in-Some+else-n-out, in_default}
 
-pub loop-i-init : goal.loop-i-init
+pub loop-at-init : goal.loop-at-init
 unfolding apart
-loop-i-init c = record { few = omega arith; so_far = read_none _ _ }
+loop-at-init c = read_none _ _
 
 pub returns-then-not-fits_in : goal.returns-then-not-fits_in
 returns-then-not-fits_in c =
-    let l = c.loop-i in let all = read_fault l.invariant.so_far c.loop-i-test.true c.byte_at-byte.result c.byte_at-byte.ensures
-    (refused_byte _ _ _ (sym c.fits_in.ensures ∙ c.if-not-fits_in.true)) in record { outcome = all.0; output = all.1 }
-
--- the byte is no fault, room aside; it ends a number, or it does not
-fit : (c : Else-not-fits_in) → fits c.loop-i.part c.byte_at-byte.result ≡ true
-fit c = sym c.fits_in.ensures ∙ c.if-not-fits_in.false
-
-at-end : (c : Then-ends_number) → ends c.loop-i.part c.byte_at-byte.result ≡ true
-at-end c = sym c.ends_number.ensures ∙ c.if-ends_number.true
+    let all = read_fault c.loop-at.invariant c.loop-at-test.true c.byte_at-byte.result c.byte_at-byte.ensures
+    (refused_byte _ _ _ (sym c.if-not-fits_in.ensures)) in record { outcome = all.0; output = all.1 }
 
 pub returns-then-n-out : goal.returns-then-n-out
 returns-then-n-out c =
-    let l = c.loop-i in let all = read_fault l.invariant.so_far c.loop-i-test.true c.byte_at-byte.result c.byte_at-byte.ensures
-    (refused_room _ _ _ (fit (goal.at.returns-then-n-out c).Else-not-fits_in) (at-end (goal.at.returns-then-n-out c).Then-ends_number) (omega arith)) in record { outcome = all.0; output = all.1 }
+    let all = read_fault c.loop-at.invariant c.loop-at-test.true c.byte_at-byte.result c.byte_at-byte.ensures
+    (refused_room _ _ _ (sym c.if-not-fits_in.ensures) c.in-Some.ensures.0 (omega arith)) in record { outcome = all.0; output = all.1 }
 
-pub offset_bounds-out-n : goal.offset_bounds-out-n
-offset_bounds-out-n c = omega arith
+-- one more byte is read
+step : (c : After-part_after-part)
+    → Read-on c.args.text.now c.args.out.now c.match-ended.out c.part_after-part.result c.match-ended.n (c.loop-at.at + 1)
+step c =
+    let read = c.loop-at.invariant in
+    let fits = sym c.if-not-fits_in.ensures in
+    rw c.part_after-part.ensures
+    (elim c.match-ended.branch [
+      | in-Some+else-n-out w ↦ rw (w.out-is, w.n-is, w.in-Some.ensures.1)
+          (read_number read c.loop-at-test.true c.byte_at-byte.result c.byte_at-byte.ensures fits w.in-Some.ensures.0 (omega arith))
+      | in_default w ↦ rw (w.out-is, w.n-is)
+          (read_more read c.loop-at-test.true c.byte_at-byte.result c.byte_at-byte.ensures fits w.in_default.ensures)
+    ])
 
-pub bounds-out-n : goal.bounds-out-n
-bounds-out-n c = omega arith
+pub loop-at-preserved : goal.loop-at-preserved
+loop-at-preserved c = step (goal.at.loop-at-preserved c).After-part_after-part
 
-pub overflow_add-n : goal.overflow_add-n
-overflow_add-n c = omega arith
-
-pub part_after-part-requires : goal.part_after-part-requires
-part_after-part-requires c = fit (goal.at.part_after-part-requires c).Else-not-fits_in
-
-pub overflow_add-i : goal.overflow_add-i
-overflow_add-i c = omega arith
-
-pub loop-i-smaller : goal.loop-i-smaller
-loop-i-smaller c = omega arith
-
-pub loop-i-preserved : goal.loop-i-preserved
-loop-i-preserved c =
-    let l = c.loop-i in
-    let byte = c.byte_at-byte.result in
-    let on = fit (goal.at.loop-i-preserved c).Else-not-fits_in in
-    record {
-      few = omega arith;
-      so_far = rw c.part_after-part.ensures
-          (elim c.if-ends_number.branch [
-            | then-ends_number+else-n-out w ↦ rw (w.out-is, w.n-is)
-                (read_number l.invariant.so_far c.loop-i-test.true byte c.byte_at-byte.ensures on (sym c.ends_number.ensures ∙ w.if-ends_number.true) (omega arith))
-            | else-ends_number w ↦ rw (w.out-is, w.n-is)
-                (read_more l.invariant.so_far c.loop-i-test.true byte c.byte_at-byte.ensures on (sym c.ends_number.ensures ∙ w.if-ends_number.false))
-          ]);
-    }
-
-pub returns : goal.returns
-returns c = let all = read_all c.loop-i.invariant.so_far (omega arith) in record { outcome = all.0; output = all.1 }
+pub returns-after-ended : goal.returns-after-ended
+returns-after-ended c =
+    let all = read_all (step (goal.at.returns-after-ended c).After-part_after-part) (omega arith) in record { outcome = all.0; output = all.1 }
