@@ -1,12 +1,12 @@
 -- Numbers of one, two and four bytes, and elements.
 --
---   number_of_one, number_of_two, number_of_four    as `words` reads them
+--   number_of_one, number_of_two, number_of_four    a number by its bytes
 --   length_elements, element_is                     the elements of bytes, one by one
 --   bytes_of_four                                   the bytes of a number of four bytes, one by one
 --   write_four                                      one more element is written as its four bytes
 --   written_exact                                   elements written where they just fit
 --   no_bit_differs                                  differing bits are gathered: none is found where two numbers are equal
---   below_all                                       whether each element is below a number, from a search for one that is not
+--   each_below                                       whether each element is below a number, from a search for one that is not
 use mathlib.Core.Path.{◌≡◌, sym, ap, ap₂, ◌∙◌}
 use mathlib.Core.Bool.{Bool, true, false, ◌&&◌, and-eq-true_iff}
 use mathlib.Core.List.{List, [], ◌∷◌, ◌++◌, append_assoc, append-nil}
@@ -101,17 +101,17 @@ no_bit_differs d a b =
     let parts = (and-eq-true_iff (eqb d 0) (eqb a b)).0 t in
     eq-eqb (bit_or d x) 0 (ap₂ (λ (c e : ℕ). bit_or c (bit_xor e b)) (eqb-true d 0 parts.0) (eqb-true a b parts.1) ∙ xor_self b))
 
-pub below_all : (q n : ℕ) (bytes : List ℕ) (r : Bool)
+pub each_below : (q n : ℕ) (bytes : List ℕ) (r : Bool)
     → MatchBool r (AllWithin (λ i. number_at bytes (i * 4) 4 < q) (range_with_len 0 n) 0 (length (range_with_len 0 n)))
     ((k : ℕ) × (k < length (range_with_len 0 n)) × HoldsAt (λ i. q ≤ number_at bytes (i * 4) 4) (range_with_len 0 n) k)
     → r ≡ all_below q (elements_of n bytes)
-below_all q n bytes true each =
+each_below q n bytes true each =
     sym (below_test q (elements_of n bytes)
     (λ i h.
     let l : i < n = omega (arith, length_elements n bytes) in
     let here = each i 0 (omega arith) (omega (arith, length-range_with_len 0 n)) in
     omega (arith, element_is n bytes i l, rw (get_or-range_with_len 0 n i 0 l, zero-add) at here)))
-below_all q n bytes false (k, l, high) =
+each_below q n bytes false (k, l, high) =
     let h : k < n = omega (arith, length-range_with_len 0 n) in
     let here = high 0 in
     sym (below_stop q (elements_of n bytes) k (omega (arith, length_elements n bytes))

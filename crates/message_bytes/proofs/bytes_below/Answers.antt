@@ -7,7 +7,7 @@ use lib.ListN.{length}
 use Rattle.std.proofs.Common.{rules}
 use Rattle.std.proofs.lemmas.Iterator.{cases_from_all, YieldsList-from_range}
 use Rattle.message_bytes.specs.Bytes.{number_at}
-use Rattle.message_bytes.proofs.Words.{below_all}
+use Rattle.message_bytes.proofs.Words.{each_below}
 use Rattle.message_bytes.proofs.bytes_below.Goals as goal
 
 pub returns : goal.returns
@@ -16,6 +16,6 @@ returns c =
     let n = length bytes / 4 in
     let q = c.prime_of-q.result in
     rw (← c.prime_of-q.ensures)
-    (below_all q n bytes c.all.result
+    (each_below q n bytes c.all.result
     (cases_from_all _ _ _ (λ i. number_at bytes (i * 4) 4 < q) (λ i. q ≤ number_at bytes (i * 4) 4) c.all.ensures.ran
     (YieldsList-from_range 0 n n refl (omega arith)) (λ x p k. search (rules, tests)) (λ x p k. search (rules, tests))))
