@@ -16,7 +16,8 @@ use Prim.Native.Nat.{ℕ}
 use lib.ListN.{drop}
 use Rattle.algebra.specs.Lists.{same}
 use Rattle.algebra.specs.Sums.{sum}
-use Rattle.refusal.specs.Chain.{first, outcome, unless_refused, outside}
+use Rattle.refusal.specs.Numbers.{refusal_of, sheet}
+use Rattle.refusal.specs.Chain.{first, outcome, answered, unless_refused, outside}
 use Rattle.field.specs.Modulus.{moduli, modulus, no_modulus}
 use Rattle.masks.specs.Drawing.{limit, usable, kept, drawn, used, draw_tests, draw_outcome, told, masks_after}
 use Rattle.masks.specs.Uniform.{count, gives, all_usable}
@@ -37,11 +38,11 @@ unfolding limit usable used
 counts = refl
 
 numbers : map (λ r. (told r).number) (draw_outcome 5 [] 1 ∷ draw_outcome 1 five 4 ∷ draw_outcome 1 five 3 ∷ []) ≡ 1 ∷ 27 ∷ 0 ∷ []
-unfolding limit usable kept used draw_tests draw_outcome first outcome outside moduli modulus no_modulus
+unfolding limit usable kept used draw_tests draw_outcome first outcome answered outside refusal_of sheet moduli modulus no_modulus
 numbers = refl
 
 uses : (told (draw_outcome 1 five 3)).values ++ (told (draw_outcome 3 (4294967295 ∷ 1 ∷ 9 ∷ []) 1)).values ≡ 5 ∷ 2 ∷ []
-unfolding limit usable kept used draw_tests draw_outcome first outcome outside moduli modulus no_modulus
+unfolding limit usable kept used draw_tests draw_outcome first outcome answered outside refusal_of sheet moduli modulus no_modulus
 uses = refl
 
 kept_output : masks_after 1 five (7 ∷ 7 ∷ 7 ∷ 7 ∷ []) ≡ 7 ∷ 7 ∷ 7 ∷ 7 ∷ []

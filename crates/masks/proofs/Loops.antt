@@ -6,7 +6,7 @@
 --   Searched                    the words up to `end` are looked at, and so many elements are left to fill
 --   searched_none, searched_part  no word, and as many words more as there are elements left
 --   searched_few, searched_all  too few words are left, or no element
---   Put                         the first i words are written: the first n elements of the output are their remainders
+--   Put                         all words but the last ones, `rest`, are written: the first n elements of the output are their remainders
 --   put_none, put_usable, put_skipped, put_all  the same, of writing
 --   put_room                    there is room for the remainder of a usable word
 --   put_full                    where all words are usable, the next one is
@@ -20,8 +20,9 @@ use native.Mathlib.Omega.{arith}
 use lib.ListN.{length, get_or, take, drop, set, length-set, length-append, length-drop, drop_of_length-le}
 use lib.Seq.{drop-cons, drop-drop, length-take-le, take_all, take_at, take-suc-set}
 use borrow.Author.Tests.{lt-ltb, le-ltb}
+use Rattle.std.proofs.lemmas.List.{nil_from_length}
 use Rattle.masks.specs.Drawing.{limit, usable, kept, used}
-use Rattle.masks.proofs.Steps.{kept_usable, kept_skipped, kept_few, kept_part, kept_full, used_part}
+use Rattle.masks.proofs.Steps.{kept_usable, kept_skipped, kept_few, kept_append, kept_part, kept_full, used_part}
 
 module _ (q w : ℕ) {last : ℕ} (e : last + 1 ≡ limit q) where
   pub usable_at : w ≤ last → usable q w ≡ true
@@ -87,76 +88,72 @@ module _ {q wanted : ℕ} {words : List ℕ} {left end : ℕ} (s : Searched q wa
 
 -- ---- words that are written
 
-pub record Put (q : ℕ) (words out : List ℕ) (n i : ℕ) : Type 0 where
-  pub room : length out ≡ n + length (kept q (drop i words))
-  pub is : kept q words ≡ take n out ++ kept q (drop i words)
+pub record Put (q : ℕ) (words out : List ℕ) (n : ℕ) (rest : List ℕ) : Type 0 where
+  pub room : length out ≡ n + length (kept q rest)
+  pub is : kept q words ≡ take n out ++ kept q rest
 
-pub put_none : (q : ℕ) (words out : List ℕ) → length (kept q words) ≡ length out → Put q words out 0 0
+pub put_none : (q : ℕ) (words out : List ℕ) → length (kept q words) ≡ length out → Put q words out 0 words
 put_none q words out e = record { room = sym e ∙ omega arith; is = refl }
 
-module _ {q : ℕ} {words out : List ℕ} {n i : ℕ} (p : Put q words out n i) where
-  pub put_all : i ≡ length words → out ≡ kept q words
+module _ {q : ℕ} {words out : List ℕ} {n : ℕ} {rest : List ℕ} (p : Put q words out n rest) where
+  pub put_all : length rest ≡ 0 → out ≡ kept q words
   unfolding kept
   put_all e =
-      let past : drop i words ≡ [] = drop_of_length-le words {i = i} (omega arith) in
-      let full : length out ≡ n = p.room ∙ rw past (omega arith) in
-      sym (p.is ∙ rw past (append-nil (take n out)) ∙ take_all n out (omega arith))
+      let none : rest ≡ [] = nil_from_length rest e in
+      let full : length out ≡ n = p.room ∙ rw none (omega arith) in
+      sym (p.is ∙ rw none (append-nil (take n out)) ∙ take_all n out (omega arith))
 
-  module _ (h : i < length words) where
-    next : drop i words ≡ get_or words i 0 ∷ drop (suc i) words
-    next = drop-cons words i 0 h
-
-    pub put_room : usable q (get_or words i 0) ≡ true → n < length out
-    put_room e =
-        let one = kept_usable q (get_or words i 0) (drop (suc i) words) e in
-        let size : length (kept q (drop i words)) ≡ suc (length (kept q (drop (suc i) words))) = rw (next, one) in
-        omega (arith, p.room)
-
-    -- where all words are usable, the next one is
-    pub put_full : n ≡ i → length words ≡ length out → usable q (get_or words i 0) ≡ true
-    put_full e all =
-        let size : length (drop i words) ≡ suc (length (drop (suc i) words)) = ap length next in
-        kept_full q (get_or words i 0) (drop (suc i) words) (rw (← next) (omega (arith, p.room, length-drop i words)))
-
-    pub put_usable : usable q (get_or words i 0) ≡ true → {x : ℕ} → x ≡ get_or words i 0 % q → Put q words (set out n x) (n + 1) (i + 1)
-    put_usable e {x} is =
-        let rest = kept q (drop (suc i) words) in
-        let one : kept q (drop i words) ≡ x ∷ rest = rw (next, is) (kept_usable q (get_or words i 0) (drop (suc i) words) e) in
-        let size : length (kept q (drop i words)) ≡ suc (length rest) = ap length one in
-        rw (add-one, add-one) (record {
-          room = omega (arith, p.room, length-set out n x);
-          is = p.is ∙ rw (one, take-suc-set out n x (put_room e)) (sym (append_assoc (take n out) (x ∷ []) rest));
-        })
-
-    pub put_skipped : usable q (get_or words i 0) ≡ false → Put q words out n (i + 1)
-    put_skipped e =
-        let none = kept_skipped q (get_or words i 0) (drop (suc i) words) e in
-        rw add-one (record {
-          room = p.room ∙ rw (next, none);
-          is = p.is ∙ rw (next, none);
-        })
-
-  -- the remainders of m words more
-  module _ (m : ℕ) (h : i + m ≤ length words) {c : ℕ} (size : c ≡ length (kept q (take m (drop i words)))) where
-    abbrev now : List ℕ
-    now = kept q (take m (drop i words))
-
-    abbrev later : List ℕ
-    later = kept q (drop (i + m) words)
-
-    both : kept q (drop i words) ≡ now ++ later
-    both = kept_part q m (drop i words) ∙ ap (λ (xs : List ℕ). now ++ kept q xs) (drop-drop m i words)
+  -- some words more at once: there is room for their remainders
+  module _ (part later : List ℕ) (parts : rest ≡ part ++ later) {c : ℕ} (size : c ≡ length (kept q part)) where
+    both : kept q rest ≡ kept q part ++ kept q later
+    both = ap (kept q) parts ∙ kept_append q part later
 
     pub part_room : n + c ≤ length out
-    part_room = omega (arith, p.room, size, ap length both ∙ length-append now later)
+    part_room = omega (arith, p.room, size, ap length both ∙ length-append (kept q part) (kept q later))
 
-    pub put_part : {part : List ℕ} → part ≡ now → Put q words (take n out ++ (part ++ drop c (drop n out))) (n + c) (i + m)
-    put_part made =
+    pub put_part : {made : List ℕ} → made ≡ kept q part → Put q words (take n out ++ (made ++ drop c (drop n out))) (n + c) later
+    put_part is =
         let tail = drop c (drop n out) in
+        let now = kept q part in
         let front : length (take n out) ≡ n = length-take-le n out (omega (arith, part_room)) in
         let whole : take n out ++ (now ++ tail) ≡ (take n out ++ now) ++ tail = sym (append_assoc (take n out) now tail) in
         let front-size : length (take n out ++ now) ≡ n + c = omega (arith, length-append (take n out) now, front, size) in
-        rw (made, whole) (record {
-          room = omega (arith, length-append (take n out ++ now) tail, front-size, length-drop c (drop n out), length-drop n out, part_room, p.room, size, ap length both ∙ length-append now later);
-          is = p.is ∙ rw (both, take_at (take n out ++ now) tail (n + c) front-size) (sym (append_assoc (take n out) now later));
+        rw (is, whole) (record {
+          room = omega (arith, length-append (take n out ++ now) tail, front-size, length-drop c (drop n out), length-drop n out, part_room, p.room, size, ap length both ∙ length-append now (kept q later));
+          is = p.is ∙ rw (both, take_at (take n out ++ now) tail (n + c) front-size) (sym (append_assoc (take n out) now (kept q later)));
         })
+
+-- the words from i on are left
+module _ {q : ℕ} {words out : List ℕ} {n : ℕ} (i : ℕ) (h : i < length words) (p : Put q words out n (drop i words)) where
+  next : drop i words ≡ get_or words i 0 ∷ drop (suc i) words
+  next = drop-cons words i 0 h
+
+  pub put_room : usable q (get_or words i 0) ≡ true → n < length out
+  put_room e =
+      let one = kept_usable q (get_or words i 0) (drop (suc i) words) e in
+      let size : length (kept q (drop i words)) ≡ suc (length (kept q (drop (suc i) words))) = rw (next, one) in
+      omega (arith, p.room)
+
+  -- where all words are usable, the next one is
+  pub put_full : n ≡ i → length words ≡ length out → usable q (get_or words i 0) ≡ true
+  put_full e all =
+      let size : length (drop i words) ≡ suc (length (drop (suc i) words)) = ap length next in
+      kept_full q (get_or words i 0) (drop (suc i) words) (rw (← next) (omega (arith, p.room, length-drop i words)))
+
+  pub put_usable : usable q (get_or words i 0) ≡ true → {x : ℕ} → x ≡ get_or words i 0 % q → Put q words (set out n x) (n + 1) (drop (i + 1) words)
+  put_usable e {x} is =
+      let rest = kept q (drop (suc i) words) in
+      let one : kept q (drop i words) ≡ x ∷ rest = rw (next, is) (kept_usable q (get_or words i 0) (drop (suc i) words) e) in
+      let size : length (kept q (drop i words)) ≡ suc (length rest) = ap length one in
+      rw (add-one, add-one) (record {
+        room = omega (arith, p.room, length-set out n x);
+        is = p.is ∙ rw (one, take-suc-set out n x (put_room e)) (sym (append_assoc (take n out) (x ∷ []) rest));
+      })
+
+  pub put_skipped : usable q (get_or words i 0) ≡ false → Put q words out n (drop (i + 1) words)
+  put_skipped e =
+      let none = kept_skipped q (get_or words i 0) (drop (suc i) words) e in
+      rw add-one (record {
+        room = p.room ∙ rw (next, none);
+        is = p.is ∙ rw (next, none);
+      })

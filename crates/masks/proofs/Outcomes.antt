@@ -7,61 +7,57 @@
 --   found_used, found_refused  what the search tells by what it returns
 --   found_is       a drawing returns what the search does
 --   left_few, left_done        what it leaves in the output
-use mathlib.Core.Path.{◌≡◌, refl, sym, ◌∙◌}
+use mathlib.Core.Path.{◌≡◌, refl, sym, ap, ◌∙◌}
 use mathlib.Core.Bool.{true}
 use mathlib.Core.Logic.{⊎_elim}
 use mathlib.Core.List.{List, [], ◌∷◌}
-use Prim.Native.Nat.{ℕ, ◌<◌, ◌≤◌}
+use Prim.Native.Nat.{ℕ, zero, suc, ◌<◌, ◌≤◌}
 use native.Mathlib.Nat.{suc-ne-zero}
 use lib.Dec.{ltb}
 use lib.ListN.{length}
-use borrow.Author.Tests.{lt-ltb, le-ltb}
+use borrow.Author.Tests.{lt-ltb, le-ltb, ltb-false}
+use Rattle.std.specs.Prelude.{Result, Ok, Err}
 use Rattle.algebra.proofs.Orders.{le_or_lt}
-use Rattle.refusal.specs.Chain.{first, outcome, unless_refused, done, refused}
-use Rattle.refusal.proofs.Chains.{first_hit, first_miss, outcome_map}
+use Rattle.refusal.specs.declared.Refusal.{Refusal}
+use Rattle.refusal.specs.Numbers.{number, refusal_of, sheet}
+use Rattle.refusal.specs.Chain.{first, outcome, answered, unless_refused, done, refused}
+use Rattle.refusal.proofs.Chains.{first_hit, first_miss, first_clear, first_numbered, numbered}
+use Rattle.refusal.proofs.Answered.{answered_hit, answered_miss, answered_none, is_done}
 use Rattle.field.specs.Modulus.{modulus, no_modulus}
 use Rattle.field.proofs.Moduli.{Known}
-use Rattle.masks.specs.declared.Drawn.{Drawn}
-use Rattle.masks.specs.declared.Drawn.TheVariants.{Used, Refused}
 use Rattle.masks.specs.Drawing.{kept, drawn, used, draw_tests, draw_outcome, told, masks_after}
 
 pub draw_told : (k : ℕ) (words : List ℕ) (n : ℕ) → told (draw_outcome k words n) ≡ outcome (first (draw_tests k words n)) (done (used (modulus k) n words ∷ [])) refused
-unfolding draw_outcome
-draw_told k words n = outcome_map told (Used (used (modulus k) n words)) Refused (first (draw_tests k words n))
+unfolding draw_outcome draw_tests answered outcome numbered refusal_of sheet
+draw_told k words n = go (first (draw_tests k words n)) (first_numbered (draw_tests k words n) tt)
+  where
+    go : (m : ℕ) → ((m ≡ 0 → ⊥) → number (refusal_of m) ≡ m)
+        → told (outcome m (Ok (used (modulus k) n words)) (λ j. Err (refusal_of j))) ≡ outcome m (done (used (modulus k) n words ∷ [])) refused
+    go zero is = refl
+    go (suc m) is = ap refused (is (suc-ne-zero m))
 
-pub draw_unknown : (k : ℕ) (words out : List ℕ) → no_modulus k ≡ true → (Refused 1 ≡ draw_outcome k words (length out)) × (out ≡ masks_after k words out)
-unfolding draw_outcome masks_after draw_tests unless_refused outcome
-draw_unknown k words out e =
-    let is : first (draw_tests k words (length out)) ≡ 1 = first_hit (no_modulus k) 1 _ e in
-    rw is (refl, refl)
+pub draw_unknown : (k : ℕ) (words out : List ℕ) → no_modulus k ≡ true → (Err Refusal.Modulus ≡ draw_outcome k words (length out)) × (out ≡ masks_after k words out)
+unfolding draw_outcome masks_after draw_tests unless_refused outcome refusal_of sheet
+draw_unknown k words out e = (sym (answered_hit (no_modulus k) 0 _ _ e), rw (first_hit (no_modulus k) 1 ((ltb (length (kept (modulus k) words)) (length out), 27) ∷ []) e))
 
 -- ---- the search
 
--- nothing is used and refused
-not_both : {n r : ℕ} → Used n ≡ Refused r → ⊥
-not_both e = let z : ◌≡◌ {A = ℕ} 1 0 = cc in suc-ne-zero 0 z
-
-same_count : {n end : ℕ} → Used n ≡ Used end → end ≡ n
-same_count e = cc
-
 module _ (q n : ℕ) (words : List ℕ) where
-  abbrev pub found : Drawn
-  found = outcome (first ((ltb (length (kept q words)) n, 27) ∷ [])) (Used (used q n words)) Refused
+  abbrev pub found : Result ℕ Refusal
+  found = answered ((ltb (length (kept q words)) n, 27) ∷ []) (used q n words)
 
-  pub found_few : length (kept q words) < n → Refused 27 ≡ found
-  unfolding first outcome
-  found_few l = rw (lt-ltb (length (kept q words)) n l)
+  pub found_few : length (kept q words) < n → Err Refusal.Words ≡ found
+  unfolding refusal_of sheet
+  found_few l = sym (answered_hit _ 26 _ _ (lt-ltb (length (kept q words)) n l))
 
-  pub found_enough : n ≤ length (kept q words) → Used (used q n words) ≡ found
-  unfolding first outcome
-  found_enough l = rw (le-ltb (length (kept q words)) n l)
+  pub found_enough : n ≤ length (kept q words) → Ok (used q n words) ≡ found
+  found_enough l = sym (answered_miss _ 27 _ _ (le-ltb (length (kept q words)) n l) ∙ answered_none _)
 
-  pub found_used : {end : ℕ} → found ≡ Used end → (n ≤ length (kept q words)) × (end ≡ used q n words)
-  found_used e =
-      ⊎_elim (λ l. (l, same_count (found_enough l ∙ e))) (λ l. absurd (not_both (sym (found_few l ∙ e)))) (le_or_lt n (length (kept q words)))
+  pub found_used : {end : ℕ} → found ≡ Ok end → (n ≤ length (kept q words)) × (end ≡ used q n words)
+  found_used {end} e = let done = is_done _ _ end (sym e) in (ltb-false _ _ (first_clear _ 26 _ done.0).0, done.1)
 
-  pub found_refused : {r : ℕ} → found ≡ Refused r → length (kept q words) < n
-  found_refused e = ⊎_elim (λ l. absurd (not_both (found_enough l ∙ e))) (λ l. l) (le_or_lt n (length (kept q words)))
+  pub found_refused : {r : Refusal} → found ≡ Err r → length (kept q words) < n
+  found_refused {r} e = ⊎_elim (λ l. absurd (cc (found_enough l))) (λ l. l) (le_or_lt n (length (kept q words)))
 
 -- ---- the call
 
@@ -72,8 +68,8 @@ module _ {k q : ℕ} (m : Known k q) (words : List ℕ) where
   second n = first_miss (no_modulus k) 1 _ m.is_number ∙ rw m.is
 
   pub found_is : (n : ℕ) → found q n words ≡ draw_outcome k words n
-  unfolding draw_outcome
-  found_is n = rw (second n, m.is)
+  unfolding draw_outcome draw_tests
+  found_is n = sym (answered_miss (no_modulus k) 1 _ _ m.is_number ∙ rw m.is)
 
   module _ (out : List ℕ) where
     pub left_few : length (kept q words) < length out → out ≡ masks_after k words out

@@ -3,7 +3,7 @@
 --   kept_usable, kept_skipped   one word more, which is usable, and which is skipped
 --   used_usable, used_skipped   the same, of how many are used
 --   kept_few                    not more words are usable than there are
---   kept_part                   the usable ones of the first m words, and then those of the others
+--   kept_append, kept_part      the usable ones of two parts: those of the first, and then those of the second
 --   kept_full                   where all words are usable, the first one is
 --   used_part                   m words are used, where no fewer elements are wanted, and then as many as the others are for what is left
 use mathlib.Core.Path.{◌≡◌, refl, sym, ap, ◌∙◌}
@@ -14,6 +14,7 @@ use Prim.Native.Nat.{ℕ, zero, suc, ◌+◌, ◌-◌, ◌%◌, ◌≤◌}
 use native.Mathlib.Nat.{not-suc-le-zero}
 use native.Mathlib.Omega.{arith}
 use lib.ListN.{length, take, drop}
+use Rattle.std.proofs.lemmas.List.{take-append-drop}
 use Rattle.algebra.proofs.Tests.{by_test}
 use Rattle.masks.specs.Drawing.{usable, kept, used}
 
@@ -44,16 +45,19 @@ module _ (q : ℕ) where
       go true e l = rw (kept_usable q w words e) (omega arith)
       go false e l = rw (kept_skipped q w words e) (omega arith)
 
-  kept_more : (w : ℕ) (words part rest : List ℕ) (u : Bool) → usable q w ≡ u → kept q words ≡ kept q part ++ kept q rest
-      → kept q (w ∷ words) ≡ kept q (w ∷ part) ++ kept q rest
-  kept_more w words part rest true e h = rw (kept_usable q w words e, kept_usable q w part e, h)
-  kept_more w words part rest false e h = rw (kept_skipped q w words e, kept_skipped q w part e) h
+  -- the usable ones of two lists of words, one after the other
+  pub kept_append : (part rest : List ℕ) → kept q (part ++ rest) ≡ kept q part ++ kept q rest
+  unfolding kept
+  kept_append [] rest = refl
+  kept_append (w ∷ part) rest = go (usable q w) (kept_append part rest)
+    where
+      go : (u : Bool) → kept q (part ++ rest) ≡ kept q part ++ kept q rest
+          → cond u (w % q ∷ kept q (part ++ rest)) (kept q (part ++ rest)) ≡ cond u (w % q ∷ kept q part) (kept q part) ++ kept q rest
+      go true h = ap (λ (xs : List ℕ). w % q ∷ xs) h
+      go false h = h
 
   pub kept_part : (m : ℕ) (words : List ℕ) → kept q words ≡ kept q (take m words) ++ kept q (drop m words)
-  unfolding kept
-  kept_part zero words = refl
-  kept_part (suc m) [] = refl
-  kept_part (suc m) (w ∷ words) = kept_more w words (take m words) (drop m words) (usable q w) refl (kept_part m words)
+  kept_part m words = ap (kept q) (sym (take-append-drop m words)) ∙ kept_append (take m words) (drop m words)
 
   pub kept_full : (w : ℕ) (words : List ℕ) → length (kept q (w ∷ words)) ≡ suc (length words) → usable q w ≡ true
   kept_full w words e = ⊎_elim (λ u. u) (λ u. absurd (never u)) (by_test (usable q w))

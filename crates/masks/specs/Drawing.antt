@@ -11,10 +11,11 @@
 --   told r                == what an outcome is on paper: its number, 0 where masks are drawn, and then how many words are used
 --   masks_after k words out == what the output then holds
 use Rattle.std.specs.Prelude.{Bool, cond, List, [], ◌∷◌, ℕ, zero, suc, ◌*◌, ◌/◌, ◌%◌, ◌^◌, ltb, length, take}
-use Rattle.refusal.specs.Chain.{Test, first, outcome, unless_refused, Told, done, refused}
+use Rattle.std.specs.Prelude.{Result, Ok, Err}
+use Rattle.refusal.specs.declared.Refusal.{Refusal}
+use Rattle.refusal.specs.Numbers.{number}
+use Rattle.refusal.specs.Chain.{Test, answered, unless_refused, Told, done, refused}
 use Rattle.field.specs.Modulus.{modulus, no_modulus}
-use Rattle.masks.specs.declared.Drawn.{Drawn}
-use Rattle.masks.specs.declared.Drawn.TheVariants.{Used, Refused}
 
 unfoldable pub limit : ℕ → ℕ
 limit q = 2 ^ 32 / q * q
@@ -40,12 +41,12 @@ used q (suc n) (w ∷ words) =
 unfoldable pub draw_tests : ℕ → List ℕ → ℕ → List Test
 draw_tests k words n = (no_modulus k, 1) ∷ (ltb (length (kept (modulus k) words)) n, 27) ∷ []
 
-unfoldable pub draw_outcome : ℕ → List ℕ → ℕ → Drawn
-draw_outcome k words n = outcome (first (draw_tests k words n)) (Used (used (modulus k) n words)) Refused
+unfoldable pub draw_outcome : ℕ → List ℕ → ℕ → Result ℕ Refusal
+draw_outcome k words n = answered (draw_tests k words n) (used (modulus k) n words)
 
-abbrev pub told : Drawn → Told ℕ
-told (Used n) = done (n ∷ [])
-told (Refused n) = refused n
+abbrev pub told : Result ℕ Refusal → Told ℕ
+told (Ok n) = done (n ∷ [])
+told (Err r) = refused (number r)
 
 unfoldable pub masks_after : ℕ → List ℕ → List ℕ → List ℕ
 masks_after k words out = unless_refused (draw_tests k words (length out)) (drawn (modulus k) (length out) words) out

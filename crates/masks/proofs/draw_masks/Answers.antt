@@ -5,23 +5,42 @@ use Prim.Native.Nat.{ℕ, ◌≤◌}
 use native.Mathlib.Omega.{arith}
 use lib.ListN.{length, take}
 use lib.Seq.{length-take-le}
+use Rattle.std.proofs.lemmas.Result.{err_from_is_err_and}
 use Rattle.field.specs.Modulus.{prime}
-use Rattle.masks.specs.declared.Drawn.TheVariants.{Used}
-use Rattle.masks.specs.Drawing.{kept, drawn, used, draw_outcome}
-use Rattle.field.proofs.Moduli.{Known, known, none_named}
+use Rattle.field.proofs.Moduli.{Known, known, is_named, is_unnamed}
+use Rattle.masks.specs.Drawing.{kept, drawn, used}
 use Rattle.masks.proofs.Filled.{used_few, front_is}
 use Rattle.masks.proofs.Outcomes.{draw_unknown, found_used, found_refused, found_is, left_few, left_done}
 use Rattle.masks.proofs.draw_masks.Goals as goal
-use Rattle.masks.proofs.draw_masks.Goals.{After-find_words-found}
+use Rattle.masks.proofs.draw_masks.Goals.{After-find_words, In_ok-count}
 
-pub returns-in_default : goal.returns-in_default
-returns-in_default c =
-    let a = c.args in let all = draw_unknown a.modulus a.words.now a.out.now (none_named a.modulus (sym c.modulus_named.ensures ∙ c.in_default.is)) in record { outcome = all.0; masks = all.1 }
+pub returns-in_err-named : goal.returns-in_err-named
+returns-in_err-named c =
+    let a = c.args in
+    let p = err_from_is_err_and c.from_residual.result c.from_residual.ensures.1 in
+    let u = is_unnamed a.modulus _ (sym c.in_err-named.was ∙ c.try_from.ensures) in
+    let all = draw_unknown a.modulus a.words.now a.out.now u.0 in
+    record { outcome = rw (p.1, p.2, u.1) all.0; masks = all.1 }
 
 -- what the search starts from
-module _ (f : After-find_words-found) where
+known-q : (f : After-find_words) → Known f.args.modulus (prime f.in_ok-named.named)
+known-q f = known _ (is_named f.args.modulus _ (sym f.in_ok-named.was ∙ f.try_from.ensures)) refl
+
+pub returns-in_err-count : goal.returns-in_err-count
+returns-in_err-count c =
+    let f = (goal.at.returns-in_err-count c).After-find_words in
+    let r = c.from_residual-in_err-count in
+    let p = err_from_is_err_and r.result r.ensures.1 in
+    let found = sym c.find_words.ensures ∙ c.in_err-count.was in
+    record {
+      outcome = rw (p.1, p.2) (sym found ∙ found_is (known-q f) _ _);
+      masks = left_few (known-q f) _ _ (found_refused _ _ _ found);
+    }
+
+-- enough words are usable: those that are used give the masks
+module _ (f : In_ok-count) where
   abbrev q : ℕ
-  q = prime f.in-Is.named
+  q = prime f.in_ok-named.named
 
   abbrev words : List ℕ
   words = f.args.words.now
@@ -29,42 +48,26 @@ module _ (f : After-find_words-found) where
   abbrev out : List ℕ
   out = f.args.out.now
 
-  known-q : Known f.args.modulus q
-  known-q = known _ (sym f.modulus_named.ensures ∙ f.in-Is.is) refl
+  told : (length out ≤ length (kept q words)) × (f.in_ok-count.count ≡ used q (length out) words)
+  told = found_used _ _ _ (sym f.find_words.ensures ∙ f.in_ok-count.was)
 
-  -- a drawing returns what the search does
-  outcome-is : f.find_words-found.result ≡ draw_outcome f.args.modulus words (length out)
-  outcome-is = f.find_words-found.ensures ∙ found_is known-q words (length out)
-
-  -- enough words are usable: those that are used give the masks
-  module _ {end : ℕ} (is : f.find_words-found.result ≡ Used end) where
-    told : (length out ≤ length (kept q words)) × (end ≡ used q (length out) words)
-    told = found_used _ _ _ (sym f.find_words-found.ensures ∙ is)
-
-    front : kept q (take end words) ≡ drawn q (length out) words
-    front = ap (λ (n : ℕ). kept q (take n words)) told.1 ∙ front_is q (length out) words told.0
+  front : kept q (take f.in_ok-count.count words) ≡ drawn q (length out) words
+  front = ap (λ (n : ℕ). kept q (take n words)) told.1 ∙ front_is q (length out) words told.0
 
 pub slice_bounds-put_masks-end : goal.slice_bounds-put_masks-end
-slice_bounds-put_masks-end c =
-    let f = (goal.at.slice_bounds-put_masks-end c).After-find_words-found in
-    sym (length-take-le c.in-Used.end (words f) (omega (arith, (told f c.in-Used.is).1, used_few (q f) (length (out f)) (words f))))
+slice_bounds-put_masks-end c = sym (length-take-le c.in_ok-count.count (words c) (omega (arith, (told c).1, used_few (q c) (length (out c)) (words c))))
 
 pub put_masks-requires : goal.put_masks-requires
 unfolding drawn
 put_masks-requires c =
-    let f = (goal.at.put_masks-requires c).After-find_words-found in
-    ap length (front f c.in-Used.is) ∙ length-take-le _ _ (told f c.in-Used.is).0
+    let f = (goal.at.put_masks-requires c).In_ok-count in
+    ap length (front f) ∙ length-take-le _ _ (told f).0
 
-pub returns-in-Used : goal.returns-in-Used
-returns-in-Used c =
-    let f = (goal.at.returns-in-Used c).After-find_words-found in
+pub returns : goal.returns
+returns c =
+    let f = (goal.at.returns c).In_ok-count in
+    let g = (goal.at.returns c).After-find_words in
     record {
-      outcome = sym c.in-Used.is ∙ outcome-is f;
-      masks = c.put_masks.ensures ∙ front f c.in-Used.is ∙ left_done (known-q f) (words f) (out f) (told f c.in-Used.is).0;
+      outcome = sym c.in_ok-count.was ∙ c.find_words.ensures ∙ found_is (known-q g) _ _;
+      masks = c.put_masks.ensures ∙ front f ∙ left_done (known-q g) _ _ (told f).0;
     }
-
-pub returns-in_default-found : goal.returns-in_default-found
-returns-in_default-found c =
-    let f = (goal.at.returns-in_default-found c).After-find_words-found in
-    let few = found_refused _ _ _ (sym c.find_words-found.ensures ∙ c.in_default-found.is) in
-    record { outcome = outcome-is f; masks = left_few (known-q f) (words f) (out f) few }

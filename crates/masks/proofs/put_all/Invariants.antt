@@ -1,13 +1,8 @@
 -- `masks::put_all` meets its contract.
-use mathlib.Core.Path.{◌≡◌}
-use Prim.Native.Nat.{◌-◌, ◌≤◌}
-use lib.ListN.{length}
+use lib.ListN.{drop}
 use Rattle.field.specs.Modulus.{prime}
 use Rattle.masks.proofs.Loops.{Put}
 use Rattle.masks.proofs.put_all.Given as goal
 
 abbrev pub invariant-loop-i : goal.invariant-loop-i
-invariant-loop-i l = record { few : l.i ≤ length l.words; all : length l.words ≡ length l.out; same : length l.out ≡ length l.initial.out; so_far : Put (prime l.modulus) l.words l.out l.i l.i }
-
-abbrev pub decreases-loop-i : goal.decreases-loop-i
-decreases-loop-i l = length l.words - l.i
+invariant-loop-i l = Put (prime l.modulus) l.words l.out l.i (drop l.i l.words)

@@ -1,13 +1,13 @@
 -- `masks::put_masks` meets its contract.
-use mathlib.Core.Path.{◌≡◌}
-use Prim.Native.Nat.{◌-◌, ◌≤◌}
-use lib.ListN.{length}
+use Rattle.std.specs.Slice.Iter.{chunks_rest}
 use Rattle.field.specs.Modulus.{prime}
 use Rattle.masks.proofs.Loops.{Put}
 use Rattle.masks.proofs.put_masks.Given as goal
 
-abbrev pub invariant-loop-end : goal.invariant-loop-end
-invariant-loop-end l = record { few : l.end ≤ length l.words; same : length l.out ≡ length l.initial.out; so_far : Put (prime l.modulus) l.words l.out l.filled l.end }
-
-abbrev pub decreases-loop-end : goal.decreases-loop-end
-decreases-loop-end l = length l.words - l.end
+abbrev pub invariant-loop-part : goal.invariant-loop-part
+invariant-loop-part l =
+    record {
+      can : (goal.iterator-loop-part).can_next l.part-iterator;
+      ends : (goal.iterator-loop-part).is_finite l.part-iterator;
+      so_far : Put (prime l.modulus) l.words l.out l.filled (chunks_rest l.part-iterator);
+    }
