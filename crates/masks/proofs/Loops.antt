@@ -2,16 +2,16 @@
 --
 --   usable_at, skipped_at       a word up to the last that is usable, and one past it
 --   Counted                     n of the first i words are usable
---   counted_none, counted_usable, counted_skipped, counted_all  no word, one word more, and all
+--   counted_usable, counted_skipped, counted_all  one word more, and all
 --   Searched                    the words up to `end` are looked at, and so many elements are left to fill
---   searched_none, searched_part  no word, and as many words more as there are elements left
+--   searched_part               as many words more as there are elements left
 --   searched_few, searched_all  too few words are left, or no element
 --   Put                         all words but the last ones, `rest`, are written: the first n elements of the output are their remainders
---   put_none, put_usable, put_skipped, put_all  the same, of writing
+--   put_usable, put_skipped, put_all  the same, of writing
 --   put_room                    there is room for the remainder of a usable word
 --   put_full                    where all words are usable, the next one is
 --   part_room, put_part         some words more at once: there is room for their remainders
-use mathlib.Core.Path.{◌≡◌, refl, sym, ap, ◌∙◌}
+use mathlib.Core.Path.{◌≡◌, sym, ap, ◌∙◌}
 use mathlib.Core.Bool.{true, false}
 use mathlib.Core.List.{List, [], ◌∷◌, ◌++◌, append-nil, append_assoc}
 use Prim.Native.Nat.{ℕ, suc, ◌+◌, ◌-◌, ◌%◌, ◌<◌, ◌≤◌}
@@ -38,9 +38,6 @@ module _ (q w : ℕ) {last : ℕ} (e : last + 1 ≡ limit q) where
 abbrev pub Counted : ℕ → List ℕ → ℕ → ℕ → Type 0
 Counted q words n i = length (kept q words) ≡ n + length (kept q (drop i words))
 
-pub counted_none : (q : ℕ) (words : List ℕ) → Counted q words 0 0
-counted_none q words = omega arith
-
 module _ (q : ℕ) (words : List ℕ) (n i : ℕ) (c : Counted q words n i) where
   pub counted_all : length words ≤ i → n ≡ length (kept q words)
   unfolding kept
@@ -63,9 +60,6 @@ module _ (q : ℕ) (words : List ℕ) (n i : ℕ) (c : Counted q words n i) wher
 pub record Searched (q wanted : ℕ) (words : List ℕ) (left end : ℕ) : Type 0 where
   pub to : used q wanted words ≡ end + used q left (drop end words)
   pub has : length (kept q words) + left ≡ wanted + length (kept q (drop end words))
-
-pub searched_none : (q wanted : ℕ) (words : List ℕ) → Searched q wanted words wanted 0
-searched_none q wanted words = record { to = omega arith; has = omega arith }
 
 module _ {q wanted : ℕ} {words : List ℕ} {left end : ℕ} (s : Searched q wanted words left end) where
   pub searched_all : left ≡ 0 → (end ≡ used q wanted words) × (wanted ≤ length (kept q words))
@@ -91,9 +85,6 @@ module _ {q wanted : ℕ} {words : List ℕ} {left end : ℕ} (s : Searched q wa
 pub record Put (q : ℕ) (words out : List ℕ) (n : ℕ) (rest : List ℕ) : Type 0 where
   pub room : length out ≡ n + length (kept q rest)
   pub is : kept q words ≡ take n out ++ kept q rest
-
-pub put_none : (q : ℕ) (words out : List ℕ) → length (kept q words) ≡ length out → Put q words out 0 words
-put_none q words out e = record { room = sym e ∙ omega arith; is = refl }
 
 module _ {q : ℕ} {words out : List ℕ} {n : ℕ} {rest : List ℕ} (p : Put q words out n rest) where
   pub put_all : length rest ≡ 0 → out ≡ kept q words

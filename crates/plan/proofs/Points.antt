@@ -6,7 +6,7 @@
 --   points_except               none has a number that no row of a point has
 --   pass_point                  the tests of the points up to i pass, and so do those of i
 --   stop_point                  they pass up to i, and one of i tells a number
---   length_differs, length_same the test of the points' number
+--   length_same                 the points are as many as the hosts: the test of their number does not hold
 use mathlib.Core.Path.{◌≡◌, refl, sym, ap, ap₂, ◌∙◌, subst}
 use mathlib.Core.Bool.{Bool, true, false, not, ◌||◌}
 use mathlib.Core.Logic.{⊎_elim}
@@ -17,11 +17,11 @@ use native.Mathlib.Numerals.{add-one}
 use native.Mathlib.Omega.{arith}
 use lib.Dec.{T, eqb}
 use lib.ListN.{length, get_or, take}
-use borrow.Author.Tests.{eq-eqb, ne_eqb}
+use borrow.Author.Tests.{eq-eqb}
 use Rattle.algebra.proofs.Tests.{or_true, or_false, or_assoc}
 use Rattle.refusal.specs.Numbers.{refusal_of, sheet}
 use Rattle.refusal.specs.Chain.{Test, first, except}
-use Rattle.refusal.proofs.Chains.{first_hit, first_miss, numbered, numbered_append, first_append, first_append_hit}
+use Rattle.refusal.proofs.Chains.{first_miss, numbered, numbered_append, first_append, first_append_hit}
 use Rattle.refusal.proofs.Except.{except_append}
 use Rattle.plan.specs.Planning.{member, point_tests_at, all_point_tests, point_tests}
 
@@ -72,10 +72,6 @@ module _ (q : ℕ) (points : List ℕ) where
 
   pub stop_point : (i n r : ℕ) → i < n → first (all_point_tests q points i) ≡ 0 → first (point_tests_at q points i) ≡ suc r → first (all_point_tests q points n) ≡ suc r
   stop_point i n r h e f = keep (suc i) n r h (next_point i e ∙ f)
-
-  pub length_differs : (hosts : ℕ) → (length points ≡ hosts → ⊥) → first (point_tests q hosts points) ≡ 9
-  unfolding point_tests
-  length_differs hosts ne = first_hit _ 9 _ (ap not (ne_eqb (length points) hosts ne))
 
   pub length_same : (hosts : ℕ) → length points ≡ hosts → first (point_tests q hosts points) ≡ first (all_point_tests q points (length points))
   unfolding point_tests
