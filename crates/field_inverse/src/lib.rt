@@ -19,8 +19,16 @@ pub fn inverse_of(modulus: Modulus, a: u32) -> u32
     let mut last_factor = 0;
     let mut next_factor = 1;
     let mut minus = true;
-    // Stays: Euclid's remainders fall, and no index is counted.
-    while next != 0 {
+    // Stays: the form of 01, a loop whose break yields the inverse; it goes over remainders, and counts no index.
+    loop {
+        if next == 0 {
+            // The last remainder is 1 and its factor the inverse; where a is 0, it is q and its factor 0.
+            break if minus && 0 < last_factor {
+                q - last_factor
+            } else {
+                last_factor
+            };
+        }
         let quotient = last / next;
         let remainder = last % next;
         let new_factor = last_factor + quotient * next_factor;
@@ -29,11 +37,5 @@ pub fn inverse_of(modulus: Modulus, a: u32) -> u32
         last_factor = next_factor;
         next_factor = new_factor;
         minus = !minus;
-    }
-    // The last remainder is 1 and its factor the inverse; where a is 0, it is q and its factor 0.
-    if minus && 0 < last_factor {
-        q - last_factor
-    } else {
-        last_factor
     }
 }

@@ -130,7 +130,11 @@ fn version_test(message: &[u8]) -> bool
     requires { 16 ≤ length message.now }
     ensures { result ≡ differs (number_at message.now 3 2) version }
 {
-    u16::from_be_bytes([message[3], message[4]]) != VERSION
+    let version = u16::from_be_bytes([message[3], message[4]]);
+    match version {
+        VERSION => false,
+        0 | 2..=0xFFFF => true,
+    }
 }
 
 // Reads a message's header: its fields and their modulus.

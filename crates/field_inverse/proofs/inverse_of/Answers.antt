@@ -27,17 +27,26 @@ loop-next-init c =
     euclid_start q.result a.a c.reduce-next.result (prime-q a.modulus q.ensures).above_one
     (c.reduce-next.ensures ∙ ap (λ (k : ℕ). a.a % k) (sym q.ensures))
 
+pub overflow_sub-result : goal.overflow_sub-result
+overflow_sub-result c = omega (arith, c.loop-next.invariant.within)
+
+pub nonzero_div-quotient : goal.nonzero_div-quotient
+nonzero_div-quotient c = omega arith
+
+pub nonzero_rem-remainder : goal.nonzero_rem-remainder
+nonzero_rem-remainder c = omega arith
+
 pub overflow_mul-new_factor : goal.overflow_mul-new_factor
-overflow_mul-new_factor c = omega (arith, small-q c.args.modulus c.prime_of-q.ensures, euclid_below (omega arith) c.loop-next.invariant)
+overflow_mul-new_factor c = omega (arith, small-q c.args.modulus c.prime_of-q.ensures, euclid_below (nonzero_rem-remainder c) c.loop-next.invariant)
 
 pub overflow_add-new_factor : goal.overflow_add-new_factor
-overflow_add-new_factor c = omega (arith, small-q c.args.modulus c.prime_of-q.ensures, euclid_below (omega arith) c.loop-next.invariant)
+overflow_add-new_factor c = omega (arith, small-q c.args.modulus c.prime_of-q.ensures, euclid_below (nonzero_rem-remainder c) c.loop-next.invariant)
 
 pub loop-next-smaller : goal.loop-next-smaller
-loop-next-smaller c = mod-lt c.loop-next.last (omega arith)
+loop-next-smaller c = mod-lt c.loop-next.last (nonzero_rem-remainder c)
 
 pub loop-next-preserved : goal.loop-next-preserved
-loop-next-preserved c = euclid_step (omega arith) c.loop-next.invariant
+loop-next-preserved c = euclid_step (nonzero_rem-remainder c) c.loop-next.invariant
 
 -- at the break: the last factor is 0, or it is the inverse with its sign
 module _ (m : Modulus) (a : ℕ) {q last next last_factor next_factor : ℕ} {minus : Bool} (is : q ≡ prime m) (end : next ≡ 0)
@@ -55,14 +64,14 @@ pub returns-then-last_factor-gt0 : goal.returns-then-last_factor-gt0
 unfolding with_sign
 returns-then-last_factor-gt0 c =
     rw c.if-minus.true at
-    (at-end c.args.modulus c.args.a c.prime_of-q.ensures c.loop-next-test.false c.loop-next.invariant c.if-last_factor-gt0.true)
+    (at-end c.args.modulus c.args.a c.prime_of-q.ensures c.if-next-eq0.true c.loop-next.invariant c.if-last_factor-gt0.true)
 
 pub returns-else-minus : goal.returns-else-minus
 unfolding with_sign
 returns-else-minus c =
     let factor = c.loop-next.last_factor in
-    let none = at_none c.args.modulus c.args.a c.prime_of-q.ensures c.loop-next-test.false c.loop-next.invariant in
-    let end = at-end c.args.modulus c.args.a c.prime_of-q.ensures c.loop-next-test.false c.loop-next.invariant in
+    let none = at_none c.args.modulus c.args.a c.prime_of-q.ensures c.if-next-eq0.true c.loop-next.invariant in
+    let end = at-end c.args.modulus c.args.a c.prime_of-q.ensures c.if-next-eq0.true c.loop-next.invariant in
     ⊎_elim (λ w. none (omega (arith, w.1)))
     (λ w. ⊎_elim (λ (z : factor ≤ 0). none (omega arith)) (λ (some : 0 < factor). rw w at (end some)) (le_or_lt factor 0))
     c.else-minus.either
