@@ -44,14 +44,16 @@ pub fn add_pair(sums: &mut [u64], weight: u32, row: &[u32], second: u32, next: &
 pub fn add_rows(sums: &mut [u64], weights: &[u32], source: &[u32], stride: usize)
     ensures { sums.new ≡ added sums.old weights.now source.now stride }
 {
-    let pairs = weights.len() / 2;
     let mut rest = source;
-    for c in 0..pairs {
+    let mut left = weights;
+    // Stays: no index is counted; a `for` over the pairs was slower than the bar.
+    while let [weight, second, more @ ..] = left {
         let next = next_rows(rest, stride);
-        add_pair(sums, weights[c * 2], rest, weights[c * 2 + 1], next);
+        add_pair(sums, *weight, rest, *second, next);
         rest = next_rows(next, stride);
+        left = more;
     }
-    if pairs * 2 < weights.len() {
-        add_row(sums, weights[pairs * 2], rest);
+    if let [weight] = left {
+        add_row(sums, *weight, rest);
     }
 }
