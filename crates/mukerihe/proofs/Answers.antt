@@ -1,20 +1,23 @@
 -- A host's answer to two messages.
 --
---   was_read, was_refused  what looking a message over tells of its tests
 --   Paired          what is used of what the tests of two headers ask
 --   paired          they pass only where it holds
 --   answer_written  writing the answer's message is carried out
 --   length_answer   how many bytes it has
 --   headed_length, done  the header is put to the front of the output, and then the product of the payloads: this is that message
+--   answer_numbered every test of the call has a number
 --   answer_parts    the call is carried out only where both messages pass their tests, and both together
---   first_refused, second_refused   a message is refused: so is the call, and it leaves what was there
---   answered        both pass their tests: the call does what those of both headers tell
+--   first_refused, second_refused, pair_refused  a message is refused, or both together: so is the call
+--   read            the headers of messages that pass their tests
+--   carried_out     both pass their tests, by themselves and together: the call is carried out
+--   kept            a refused call leaves the output as it was
 use mathlib.Core.Path.{◌≡◌, refl, sym, ap, ap₂, ◌∙◌}
 use mathlib.Core.Bool.{not, ◌||◌}
 use mathlib.Core.List.{List, ◌++◌, append_assoc}
 use Prim.Native.Nat.{ℕ, ◌+◌, ◌*◌, ◌≤◌}
 use native.Mathlib.Nat.{mod-lt}
 use native.Mathlib.Omega.{arith}
+use lib.Dec.{T}
 use lib.ListN.{length, take, drop, length-append, length-drop}
 use lib.Seq.{take_at, drop_at, drop-drop}
 use borrow.Author.Tests.{ltb-false, le-ltb}
@@ -22,10 +25,14 @@ use Rattle.algebra.specs.Lists.{AllBelow}
 use Rattle.algebra.proofs.Tests.{equal, alike}
 use Rattle.algebra.proofs.Lists.{below_test}
 use Rattle.algebra.proofs.Grids.{length_grid, below_grid}
-use Rattle.refusal.specs.Chain.{Test, first, outcome, unless_refused}
+use Rattle.std.specs.Prelude.{Ok, Err}
+use Rattle.refusal.specs.declared.Refusal.{Refusal}
+use Rattle.refusal.specs.Numbers.{refusal_of, sheet, own}
+use Rattle.refusal.specs.Chain.{Test, first, answered}
 use Rattle.refusal.specs.Limits.{any_outside, sizes_outside, over_block}
-use Rattle.refusal.proofs.Chains.{first_none, first_miss, first_clear, first_append, first_append_clear, first_append_hit, unless_done, unless_refused_lem}
+use Rattle.refusal.proofs.Chains.{numbered, numbered_append, first_none, first_miss, first_clear, first_append, first_append_clear, unless_done, unless_refused_lem}
 use Rattle.refusal.proofs.Limits.{within_range}
+use Rattle.refusal.proofs.Answered.{is_done, is_refused, refused_on, passed_on}
 use Rattle.field.specs.Modulus.{modulus}
 use Rattle.field.proofs.Moduli.{known_number}
 use Rattle.message_bytes.specs.Bytes.{bytes_of, elements_of}
@@ -34,24 +41,15 @@ use Rattle.message_header.specs.declared.Header.{Header}
 use Rattle.message_header.specs.Header.{header, header_of, element_count}
 use Rattle.message_header.proofs.Fields.{Ranged, ranged, fields_pass}
 use Rattle.message_header.proofs.Headers.{length_header}
-use Rattle.message.specs.declared.Parsed.TheVariants.{Fields, Refused}
+use Rattle.message_header.proofs.Outcomes.{refused_by}
 use Rattle.message.specs.Format.{message_of, payload, elements, element_test, write_tests, message_tests, examined}
 use Rattle.message.proofs.Tests.{message_numbered}
 use Rattle.message.proofs.Fields.{writes, readable}
-use Rattle.message.proofs.Outcomes.{fields_told, refused_told}
 use Rattle.product.specs.Product.{product_of}
 use Rattle.mukerihe.specs.Host.{host_tests, host_product, host_after}
 use Rattle.mukerihe.specs.Answer.{pair_header, pair_tests, host_answer, host_answer_tests, host_answer_after}
 
 module _ (message : List ℕ) where
-  pub was_read : {h : Header} → examined message ≡ Fields h → (first (message_tests message) ≡ 0) × (h ≡ header_of message)
-  unfolding examined
-  was_read e = fields_told _ _ e
-
-  pub was_refused : {n : ℕ} → examined message ≡ Refused n → (first (message_tests message) ≡ n) × (n ≡ 0 → ⊥)
-  unfolding examined
-  was_refused e = refused_told _ _ e
-
   -- the bytes of its elements
   payload_length : first (message_tests message) ≡ 0 → length (payload message) ≡ 4 * element_count (header_of message)
   unfolding payload
@@ -139,7 +137,7 @@ module _ (a b : List ℕ) (clear-a : first (message_tests a) ≡ 0) (clear-b : f
   unfolding elements
   right_elements = ap (λ (k : ℕ). elements_of k (payload b)) (sym right_count)
 
-  product_clear : (k : ℕ) → k ≡ 4 * (g.rows * h.columns)
+  pub product_clear : (k : ℕ) → k ≡ 4 * (g.rows * h.columns)
       → first (host_tests g.modulus g.rows g.columns h.columns (payload a) (payload b) k) ≡ 0
   unfolding host_tests sizes_outside any_outside over_block element_test
   product_clear k e =
@@ -190,6 +188,16 @@ module _ (a b : List ℕ) (clear-a : first (message_tests a) ≡ 0) (clear-b : f
         ∙ ap₂ (λ (xs : List ℕ) (i : ℕ). header (pair_header g h) ++ (xs ++ drop i out)) body end
         ∙ sym (append_assoc (header (pair_header g h)) (bytes_of block) _)
 
+pair_numbered : (g h : Header) (room : ℕ) → T (numbered (pair_tests g h room))
+unfolding pair_tests pair_header numbered refusal_of sheet own
+pair_numbered g h room = tt
+
+pub answer_numbered : (a b : List ℕ) (room : ℕ) → T (numbered (host_answer_tests a b room))
+unfolding host_answer_tests
+answer_numbered a b room =
+    numbered_append (message_tests a) _ (message_numbered a)
+    (numbered_append (message_tests b) _ (message_numbered b) (pair_numbered (header_of a) (header_of b) room))
+
 pub answer_parts : (a b : List ℕ) (room : ℕ) → first (host_answer_tests a b room) ≡ 0
     → (first (message_tests a) ≡ 0) × (first (message_tests b) ≡ 0) × (first (pair_tests (header_of a) (header_of b) room) ≡ 0)
 unfolding host_answer_tests
@@ -198,50 +206,53 @@ answer_parts a b room clear =
     let two = first_append_clear (message_tests b) _ (message_numbered b) one.1 in
     (one.0, two.0, two.1)
 
--- two messages, the output, and what stood at `written`
-module _ (a b out : List ℕ) (before : ℕ) where
+-- two messages, their headers, and the output
+module _ (a b out : List ℕ) where
   abbrev tests : List Test
   tests = host_answer_tests a b (length out)
 
-  abbrev made : List ℕ
-  made = host_answer a b
+  abbrev count : ℕ
+  count = length (host_answer a b)
 
-  -- what the call promises, where it returns n and leaves these
-  abbrev Answered : ℕ → List ℕ → ℕ → Type 0
-  Answered n after count = (n ≡ first tests) × ((after ≡ host_answer_after a b out) × (count ≡ unless_refused tests (length made) before))
+  -- a message is refused, or both together: so is the call
+  pub first_refused : (r : Refusal) → Err r ≡ examined a → Err r ≡ answered tests count
+  unfolding examined host_answer_tests
+  first_refused r e = refused_on (message_tests a) _ _ _ r e
 
-  stopped : (n : ℕ) → (n ≡ 0 → ⊥) → first tests ≡ n → Answered n out before
-  unfolding host_answer_after
-  stopped n some e =
-      let refused : first tests ≡ 0 → ⊥ = λ z. some (sym e ∙ z) in
-      (sym e, (sym (unless_refused_lem tests _ out refused), sym (unless_refused_lem tests _ before refused)))
+  module _ (g : Header) (is-read : Ok g ≡ examined a) where
+    past_first : answered tests count ≡ answered (message_tests b ++ pair_tests (header_of a) (header_of b) (length out)) count
+    unfolding examined host_answer_tests
+    past_first = passed_on (message_tests a) _ _ count g (message_numbered a) is-read
 
-  pub first_refused : (n : ℕ) → (first (message_tests a) ≡ n) × (n ≡ 0 → ⊥) → Answered n out before
-  unfolding host_answer_tests
-  first_refused n told = stopped n told.1 (first_append_hit (message_tests a) _ n told.1 told.0)
+    pub second_refused : (r : Refusal) → Err r ≡ examined b → Err r ≡ answered tests count
+    unfolding examined
+    second_refused r e = refused_on (message_tests b) _ _ _ r e ∙ sym past_first
 
-  module _ (clear-a : first (message_tests a) ≡ 0) where
-    pub second_refused : (n : ℕ) → (first (message_tests b) ≡ n) × (n ≡ 0 → ⊥) → Answered n out before
-    unfolding host_answer_tests
-    second_refused n told =
-        stopped n told.1 (first_append (message_tests a) _ (message_numbered a) clear-a ∙ first_append_hit (message_tests b) _ n told.1 told.0)
+    module _ (h : Header) (is-second : Ok h ≡ examined b) where
+      -- the headers of messages that pass their tests
+      pub read : (first (message_tests a) ≡ 0) × (g ≡ header_of a) × (first (message_tests b) ≡ 0) × (h ≡ header_of b)
+      unfolding examined
+      read =
+          let one = is_done _ _ g is-read in
+          let two = is_done _ _ h is-second in
+          (one.0, one.1, two.0, two.1)
 
-    module _ (clear-b : first (message_tests b) ≡ 0) (g h : Header) (is-g : g ≡ header_of a) (is-h : h ≡ header_of b) where
-      same_number : first (pair_tests g h (length out)) ≡ first tests
+      past_both : first tests ≡ first (pair_tests g h (length out))
       unfolding host_answer_tests
-      same_number =
-          ap₂ (λ (g h : Header). first (pair_tests g h (length out))) is-g is-h
-          ∙ sym (first_append (message_tests a) _ (message_numbered a) clear-a ∙ first_append (message_tests b) _ (message_numbered b) clear-b)
+      past_both =
+          let m = read in
+          first_append (message_tests a) _ (message_numbered a) m.0
+          ∙ first_append (message_tests b) _ (message_numbered b) m.2
+          ∙ ap₂ (λ (g h : Header). first (pair_tests g h (length out))) (sym m.1) (sym m.3)
 
-      pub answered : (n : ℕ) (after : List ℕ) (count : ℕ) → n ≡ first (pair_tests g h (length out))
-          → after ≡ unless_refused (pair_tests g h (length out)) (made ++ drop (length made) out) out
-          → count ≡ unless_refused (pair_tests g h (length out)) (length made) before
-          → Answered n after count
-      unfolding host_answer_after unless_refused
-      answered n after count is-n is-after is-count = (
-        is-n ∙ same_number,
-        (
-          is-after ∙ ap (λ (n : ℕ). outcome n (made ++ drop (length made) out) (λ k. out)) same_number,
-          is-count ∙ ap (λ (n : ℕ). outcome n (length made) (λ k. before)) same_number,
-        ),
-      )
+      pub pair_refused : {A : Type 0} (value : A) (r : Refusal) → Err r ≡ answered (pair_tests g h (length out)) value → Err r ≡ answered tests count
+      pair_refused value r e =
+          let told = is_refused _ _ r e in
+          refused_by tests count r (λ z. told.0 (sym past_both ∙ z)) (told.1 ∙ ap refusal_of (sym past_both))
+
+      pub carried_out : first (pair_tests g h (length out)) ≡ 0 → first tests ≡ 0
+      carried_out e = past_both ∙ e
+
+  pub kept : (r : Refusal) → Err r ≡ answered tests count → out ≡ host_answer_after a b out
+  unfolding host_answer_after
+  kept r e = sym (unless_refused_lem tests _ out (is_refused tests count r e).0)

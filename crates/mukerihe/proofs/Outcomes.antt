@@ -1,8 +1,9 @@
 -- The tests and the product on bytes are those on the elements that the bytes hold.
 --
+--   host_numbered     every test of the call has a number
 --   counted_few       the elements of a buffer have room in a list that is long enough for them, or for the most that a block has
---   refused           the product was refused: so is the call, and the output stays
---   done              it was not: the output holds the product's bytes
+--   outcome_is        the product of the elements returns what that of the bytes has to
+--   done              it was carried out: the output holds the product's bytes
 use mathlib.Core.Path.{◌≡◌, refl, sym, ap, ap₂, ◌∙◌}
 use mathlib.Core.Bool.{Bool, true, false, ◌||◌, true≢false}
 use mathlib.Core.Logic.{⊎_elim}
@@ -10,22 +11,28 @@ use mathlib.Core.List.{List, [], ◌∷◌, ◌++◌}
 use Prim.Native.Nat.{ℕ, ◌*◌, ◌/◌, ◌%◌, ◌≤◌, min}
 use native.Mathlib.Nat.{mul-le-mul, min-le_right}
 use native.Mathlib.Omega.{arith}
-use lib.Dec.{eqb, ltb}
+use lib.Dec.{T, eqb, ltb}
 use lib.ListN.{length, take, drop, length-append, length-drop}
 use lib.Seq.{take_at, length-take-le}
 use borrow.Author.Tests.{eqb-true, eqb-false, eq-eqb, ne_eqb, ltb-false, le-ltb}
 use Rattle.algebra.proofs.Tests.{by_test, or_left, or_right, or_all, equal, alike}
-use Rattle.refusal.specs.Chain.{first, differs}
+use Rattle.refusal.specs.Numbers.{refusal_of, sheet}
+use Rattle.refusal.specs.Chain.{first, answered, differs}
 use Rattle.refusal.specs.Limits.{most_elements, sizes_outside, over_block}
-use Rattle.refusal.proofs.Chains.{first_clear, unless_done, unless_refused_lem}
+use Rattle.refusal.proofs.Chains.{numbered, first_clear, unless_done}
 use Rattle.refusal.proofs.Limits.{within_all, blocks_fit}
 use Rattle.field.specs.Modulus.{modulus}
 use Rattle.message_bytes.specs.Bytes.{bytes_of, elements_of}
 use Rattle.message_bytes.specs.Internal.{common}
 use Rattle.message_bytes.proofs.Words.{length_elements, written_exact}
+use Rattle.message_header.proofs.Outcomes.{answered_same}
 use Rattle.product.specs.Product.{product_of, product_tests, product_after}
 use Rattle.mukerihe.specs.Host.{host_tests, host_product, host_after}
 use Rattle.mukerihe.specs.Internal.{whole_elements}
+
+pub host_numbered : (n rows inner columns : ℕ) (a b : List ℕ) (room : ℕ) → T (numbered (host_tests n rows inner columns a b room))
+unfolding host_tests numbered refusal_of sheet
+host_numbered n rows inner columns a b room = tt
 
 -- two tests of equal numbers that agree
 eqb_same : (a b c d : ℕ) → (a ≡ b → c ≡ d) → (c ≡ d → a ≡ b) → eqb a b ≡ eqb c d
@@ -150,24 +157,23 @@ module _ (rows inner columns : ℕ) (a b out : List ℕ) (na nb nc : ℕ)
         (λ size over. rw (counted_length a olda na sa, counted_length b oldb nb sb, room_is) (same_lengths size over))
         (λ t size over len. rw (left_exact size over len olda oldb sa sb, right_exact size over len olda oldb sa sb))
 
-    -- the elements that were read, and the number that the product told
+    -- the elements that were read, and what the product returned
     module _ (left right : List ℕ) (is-left : left ≡ elements_of (common a olda) a ++ drop (common a olda) olda)
-        (is_right : right ≡ elements_of (common b oldb) b ++ drop (common b oldb) oldb) (r : ℕ)
-        (told : r ≡ first (product_tests n rows inner columns (take na left) (take nb right) (length (take nc block)))) where
-      number_is : r ≡ first (host_tests n rows inner columns a b (length out))
+        (is_right : right ≡ elements_of (common b oldb) b ++ drop (common b oldb) oldb) where
+      tests_are : first (product_tests n rows inner columns (take na left) (take nb right) (length (take nc block)))
+          ≡ first (host_tests n rows inner columns a b (length out))
       unfolding counted
-      number_is =
-          told
-          ∙ ap₂ (λ (l m : List ℕ). first (product_tests n rows inner columns (take na l) (take nb m) (length (take nc block)))) is-left is_right
+      tests_are =
+          ap₂ (λ (l m : List ℕ). first (product_tests n rows inner columns (take na l) (take nb m) (length (take nc block)))) is-left is_right
           ∙ same_number
 
-      pub refused : (r ≡ 0 → ⊥) → (r ≡ first (host_tests n rows inner columns a b (length out))) × (out ≡ host_after n rows inner columns a b out)
-      unfolding host_after
-      refused ne = (number_is, sym (unless_refused_lem _ _ out (λ z. ne (number_is ∙ z))))
+      pub outcome_is : {A : Type 0} (value : A) → answered (product_tests n rows inner columns (take na left) (take nb right) (length (take nc block))) value
+          ≡ answered (host_tests n rows inner columns a b (length out)) value
+      outcome_is value = answered_same _ _ value tests_are
 
-      module _ (zero : r ≡ 0) where
+      module _ (clear-product : first (product_tests n rows inner columns (take na left) (take nb right) (length (take nc block))) ≡ 0) where
         clear : first (host_tests n rows inner columns a b (length out)) ≡ 0
-        clear = sym number_is ∙ zero
+        clear = sym tests_are ∙ clear-product
 
         size : sizes_outside rows inner columns ≡ false
         unfolding host_tests
@@ -185,7 +191,7 @@ module _ (rows inner columns : ℕ) (a b out : List ℕ) (na nb nc : ℕ)
             ≡ product_of (modulus n) rows inner columns (elements_of (rows * inner) a) (elements_of (inner * columns) b)
         unfolding product_after counted
         product_is =
-            unless_done _ _ (take nc block) (sym told ∙ zero)
+            unless_done _ _ (take nc block) clear-product
             ∙ ap₂ (λ (l m : List ℕ). product_of (modulus n) rows inner columns (take na l) (take nb m)) is-left is_right
             ∙ ap₂ (product_of (modulus n) rows inner columns) (left_exact size over len olda oldb sa sb) (right_exact size over len olda oldb sa sb)
 
@@ -194,16 +200,15 @@ module _ (rows inner columns : ℕ) (a b out : List ℕ) (na nb nc : ℕ)
             → made ≡ product_after n rows inner columns (take na left) (take nb right) (take nc block)
             → after ≡ bytes_of (take (common out (take nc (made ++ drop nc block))) (take nc (made ++ drop nc block)))
             ++ drop (common out (take nc (made ++ drop nc block)) * 4) out
-            → (r ≡ first (host_tests n rows inner columns a b (length out))) × (after ≡ host_after n rows inner columns a b out)
+            → after ≡ host_after n rows inner columns a b out
         unfolding host_after host_product
         done made after same is e =
             let w = whole size over len in
             let l = byte_lengths size over len in
             let front : take nc (made ++ drop nc block) ≡ made = take_at made _ nc (same ∙ room_is) in
-            let fits : length out ≡ 4 * length made = omega (arith, room_is) in (
-              number_is,
-              (e ∙ ap (λ (xs : List ℕ). bytes_of (take (common out xs) xs) ++ drop (common out xs * 4) out) front
-                  ∙ written_exact out made fits
-                  ∙ ap bytes_of (is ∙ product_is)
-                  ∙ sym (unless_done _ _ out clear)),
-            )
+            let fits : length out ≡ 4 * length made = omega (arith, room_is) in
+            e
+            ∙ ap (λ (xs : List ℕ). bytes_of (take (common out xs) xs) ++ drop (common out xs * 4) out) front
+            ∙ written_exact out made fits
+            ∙ ap bytes_of (is ∙ product_is)
+            ∙ sym (unless_done _ _ out clear)

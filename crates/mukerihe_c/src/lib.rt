@@ -1,10 +1,12 @@
-// The host's library for C: the two calls of `mukerihe` under their names, with its clauses.
+// The host's library for C: the two calls of `mukerihe` under their names. What they return is told by number.
 #![tactic(auto)]
 
 ghost use Rattle.std.specs.Prelude.{◌≡◌, length};
 ghost use Rattle.refusal.specs.Chain.{first, unless_refused};
 ghost use Rattle.mukerihe.specs.Host.{host_tests, host_after};
 ghost use Rattle.mukerihe.specs.Answer.{host_answer, host_answer_tests, host_answer_after};
+
+// Stays: the C interface: a refusal is told as its number, and how many bytes were written by a lent number.
 
 // The product of two shares as bytes: rows by inner times inner by columns. The output then holds it and 0 is returned; or the
 // refusal number is returned, and no byte of the output changes.
@@ -23,7 +25,10 @@ pub extern "C" fn mukerihe_product(
     ensures block { let xs = a.now in let ys = b.now in
         out.new ≡ host_after modulus rows inner columns xs ys out.old }
 {
-    mukerihe::mukerihe_product(modulus, rows, inner, columns, a, b, out)
+    match mukerihe::mukerihe_product(modulus, rows, inner, columns, a, b, out) {
+        Ok(()) => 0,
+        Err(refusal) => refusal.number(),
+    }
 }
 
 // A host's whole part: the message of its A share and that of its B share in, the message of its answer out. The answer then stands
@@ -36,5 +41,11 @@ pub extern "C" fn mukerihe_answer(a: &[u8], b: &[u8], out: &mut [u8], written: &
         written.new
         ≡ unless_refused (host_answer_tests xs ys (length out.old)) (length (host_answer xs ys)) written.old }
 {
-    mukerihe::mukerihe_answer(a, b, out, written)
+    match mukerihe::mukerihe_answer(a, b, out) {
+        Ok(count) => {
+            *written = count;
+            0
+        }
+        Err(refusal) => refusal.number(),
+    }
 }

@@ -1,8 +1,7 @@
 -- `mukerihe::pair_header` meets its contract.
-use mathlib.Core.Path.{refl}
 use Rattle.mukerihe.specs.Answer.{pair_header}
 use Rattle.mukerihe.proofs.pair_header.Goals as goal
 
 pub returns : goal.returns
 unfolding pair_header
-returns c = refl
+returns c = rw c.from.ensures
