@@ -129,7 +129,6 @@ module _ (a b out : List ℕ) (g h : Header) (p : Passed a b out g h) where
           end,
         )
 
-
 pub overflow_mul-end : goal.overflow_mul-end
 overflow_mul-end c = let p = passed _ _ _ _ _ c.in_ok-g.ensures c.in_ok-h.ensures c.in_ok-check_pair.ensures in omega (arith, (fits _ _ _ _ _ p).count)
 
