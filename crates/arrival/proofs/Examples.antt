@@ -13,7 +13,8 @@ use mathlib.Core.Bool.{cond}
 use mathlib.Core.List.{List, [], ◌∷◌}
 use Prim.Native.Nat.{ℕ}
 use Rattle.algebra.specs.Lists.{tab, all_below, same}
-use Rattle.refusal.specs.Chain.{first, outcome, unless_refused, outside as chain_outside}
+use Rattle.refusal.specs.Numbers.{refusal_of, sheet}
+use Rattle.refusal.specs.Chain.{first, outcome, answered, unless_refused, outside as chain_outside}
 use Rattle.refusal.specs.Limits.{any_outside, sizes_outside, over_block}
 use Rattle.field.specs.Modulus.{moduli, modulus, no_modulus}
 use Rattle.layout.specs.Exponents.{stride_d, layout1, stride_e, layout2, layout3, exponents, better, choice}
@@ -48,7 +49,7 @@ values : told 2 1 4 (9 ∷ 8 ∷ []) 5 ∷ told 2 1 4 (7 ∷ 8 ∷ []) 6 ∷ tol
     ∷ (23 ∷ 0 ∷ 2 ∷ 1 ∷ 2 ∷ 7 ∷ 8 ∷ 5 ∷ 6 ∷ [])
     ∷ (22 ∷ 0 ∷ 2 ∷ 1 ∷ 2 ∷ 7 ∷ 8 ∷ 5 ∷ 6 ∷ [])
     ∷ []
-unfolding tab all_below same first outcome unless_refused chain_outside any_outside sizes_outside over_block moduli modulus no_modulus stride_d layout1 stride_e layout2 layout3 exponents better choice parameters prime block_rows block_inner block_columns layout_of needed_of in_window window_test range_tests fit_tests member point_tests_at all_point_tests point_tests plan_tests big_endian number_at bytes_of elements_of mark version header header_of element_count field_tests header_tests message_of payload elements element_test message_tests is_heard with_host some_above answer_length store_length block_at with_block host_index foreign repeated state_tests answer_tests minute_tests again_tests arrival_tests entered store_entered arrived store_after
+unfolding tab all_below same refusal_of sheet first outcome answered unless_refused chain_outside any_outside sizes_outside over_block moduli modulus no_modulus stride_d layout1 stride_e layout2 layout3 exponents better choice parameters prime block_rows block_inner block_columns layout_of needed_of in_window window_test range_tests fit_tests member point_tests_at all_point_tests point_tests plan_tests big_endian number_at bytes_of elements_of mark version header header_of element_count field_tests header_tests message_of payload elements element_test message_tests is_heard with_host some_above answer_length store_length block_at with_block host_index foreign repeated state_tests answer_tests minute_tests again_tests arrival_tests entered store_entered arrived store_after
 values = refl
 
 outside : told 2 1 4 (9 ∷ 8 ∷ []) 4 ∷ told 2 1 4 (9 ∷ 8 ∷ []) 7 ∷ told 2 2 4 (7 ∷ 8 ∷ []) 7 ∷ told 2 2 4 (7 ∷ 9 ∷ []) 4 ∷ told 2 2 6 (7 ∷ 9 ∷ []) 7 ∷ told 4 2 4 (7 ∷ 9 ∷ []) 7 ∷ []
@@ -59,5 +60,5 @@ outside : told 2 1 4 (9 ∷ 8 ∷ []) 4 ∷ told 2 1 4 (9 ∷ 8 ∷ []) 7 ∷ to
     ∷ (22 ∷ 0 ∷ 2 ∷ 1 ∷ 2 ∷ 7 ∷ 8 ∷ 5 ∷ 6 ∷ [])
     ∷ (12 ∷ 0 ∷ 2 ∷ 1 ∷ 2 ∷ 7 ∷ 8 ∷ 5 ∷ 6 ∷ [])
     ∷ []
-unfolding tab all_below same first outcome unless_refused chain_outside any_outside sizes_outside over_block moduli modulus no_modulus stride_d layout1 stride_e layout2 layout3 exponents better choice parameters prime block_rows block_inner block_columns layout_of needed_of in_window window_test range_tests fit_tests member point_tests_at all_point_tests point_tests plan_tests big_endian number_at bytes_of elements_of mark version header header_of element_count field_tests header_tests message_of payload elements element_test message_tests is_heard with_host some_above answer_length store_length block_at with_block host_index foreign repeated state_tests answer_tests minute_tests again_tests arrival_tests entered store_entered arrived store_after
+unfolding tab all_below same refusal_of sheet first outcome answered unless_refused chain_outside any_outside sizes_outside over_block moduli modulus no_modulus stride_d layout1 stride_e layout2 layout3 exponents better choice parameters prime block_rows block_inner block_columns layout_of needed_of in_window window_test range_tests fit_tests member point_tests_at all_point_tests point_tests plan_tests big_endian number_at bytes_of elements_of mark version header header_of element_count field_tests header_tests message_of payload elements element_test message_tests is_heard with_host some_above answer_length store_length block_at with_block host_index foreign repeated state_tests answer_tests minute_tests again_tests arrival_tests entered store_entered arrived store_after
 outside = refl

@@ -19,9 +19,10 @@
 --   store_after           == what the store holds after any arrival
 --   number_of, heard_after == the number that an outcome stands for, 0 is done, and the hosts heard after it
 --   already_in            == the outcome is "already in"
-use Rattle.std.specs.Prelude.{Bool, true, false, cond, not, ◌&&◌, ◌||◌, List, [], ◌∷◌, ◌++◌, ℕ, ◌+◌, ◌-◌, ◌*◌, ltb, length, take, drop}
+use Rattle.std.specs.Prelude.{Bool, true, false, cond, not, ◌&&◌, ◌||◌, List, [], ◌∷◌, ◌++◌, ℕ, ◌+◌, ◌-◌, ◌*◌, ltb, length, take, drop, Result, Ok, Err}
 use Rattle.algebra.specs.Lists.{same}
-use Rattle.refusal.specs.Chain.{Test, first, outcome, unless_refused, differs}
+use Rattle.refusal.specs.declared.Refusal.{Refusal}
+use Rattle.refusal.specs.Chain.{Test, answered, number_in, unless_refused, differs}
 use Rattle.plan.specs.declared.Job.{Job}
 use Rattle.plan.specs.Planning.{block_rows, block_columns, in_window, plan_tests}
 use Rattle.message_bytes.specs.Bytes.{bytes_of}
@@ -30,7 +31,7 @@ use Rattle.message_header.specs.Header.{header_of}
 use Rattle.message.specs.Format.{payload, elements, message_tests}
 use Rattle.arrival_heard.specs.Heard.{is_heard, with_host, some_above}
 use Rattle.arrival.specs.declared.Arrived.{Arrived}
-use Rattle.arrival.specs.declared.Arrived.TheVariants.{Taken, AlreadyIn, Refused}
+use Rattle.arrival.specs.declared.Arrived.TheVariants.{Taken, AlreadyIn}
 
 unfoldable pub answer_length : Job → ℕ
 answer_length job = block_rows job * block_columns job
@@ -85,25 +86,22 @@ unfoldable pub store_entered : ℕ → ℕ → List ℕ → List ℕ → List �
 store_entered size heard store message =
     let index = host_index (header_of message) in cond (is_heard heard index) store (with_block size store index (elements message))
 
-unfoldable pub arrived : Job → List ℕ → ℕ → List ℕ → List ℕ → ℕ → Arrived
-arrived job points heard store message minute =
-    outcome (first (arrival_tests job points heard store message minute)) (entered heard message) Refused
+unfoldable pub arrived : Job → List ℕ → ℕ → List ℕ → List ℕ → ℕ → Result Arrived Refusal
+arrived job points heard store message minute = answered (arrival_tests job points heard store message minute) (entered heard message)
 
 unfoldable pub store_after : Job → List ℕ → ℕ → List ℕ → List ℕ → ℕ → List ℕ
 store_after job points heard store message minute =
     unless_refused (arrival_tests job points heard store message minute) (store_entered (answer_length job) heard store message) store
 
-abbrev pub number_of : Arrived → ℕ
-number_of (Taken heard) = 0
-number_of AlreadyIn = 0
-number_of (Refused n) = n
+abbrev pub number_of : Result Arrived Refusal → ℕ
+number_of = number_in
 
-abbrev pub heard_after : ℕ → Arrived → ℕ
-heard_after before (Taken heard) = heard
-heard_after before AlreadyIn = before
-heard_after before (Refused n) = before
+abbrev pub heard_after : ℕ → Result Arrived Refusal → ℕ
+heard_after before (Ok (Taken heard)) = heard
+heard_after before (Ok AlreadyIn) = before
+heard_after before (Err r) = before
 
-abbrev pub already_in : Arrived → Bool
-already_in (Taken heard) = false
-already_in AlreadyIn = true
-already_in (Refused n) = false
+abbrev pub already_in : Result Arrived Refusal → Bool
+already_in (Ok (Taken heard)) = false
+already_in (Ok AlreadyIn) = true
+already_in (Err r) = false
