@@ -2,13 +2,12 @@
 --
 --   exponent_by s series i j == the exponent or place that the strides s give, a mask's in 32 bits
 --   Follows s g e           == the strides s, for the parameters g, give the exponents e
---   Nested outer p inner .. == the strides of a layout by its outer and its inner side
+--   Nested outer p inner .. == the strides of a layout by its outer side, taken for A, and its inner side, taken for B
 use Rattle.std.specs.Prelude.{◌≡◌, ℕ, ◌+◌, ◌-◌, ◌*◌, ◌%◌, ◌^◌, ◌<◌}
 use Rattle.layout.specs.declared.Parameters.{Parameters}
 use Rattle.layout.specs.declared.Series.{Series}
 use Rattle.layout.specs.declared.Series.TheVariants.{BlocksA, MasksA, BlocksB, MasksB, Places}
 use Rattle.layout.specs.declared.Strides.{Strides}
-use Rattle.layout.specs.declared.Nest.{Nest}
 use Rattle.layout.specs.Exponents.{Exponents}
 
 unfoldable pub exponent_by : Strides → Series → ℕ → ℕ → ℕ
@@ -29,9 +28,12 @@ pub record Follows (s : Strides) (g : Parameters) (e : Exponents) : Type 0 where
   pub small_mask_a : s.mask_a < 2 ^ 25
   pub small_mask_b : s.mask_b < 2 ^ 25
 
-pub record Nested (outer p inner outer-masks inner-masks : ℕ) (s : Nest) : Type 0 where
-  pub stride : s.stride ≡ inner * p + inner-masks
-  pub outer_mask : s.outer_mask ≡ (outer - 1) * s.stride + inner * p
-  pub inner_mask : s.inner_mask ≡ inner * p
-  pub needed : s.needed ≡ (outer + 1) * s.stride + outer-masks - inner-masks - 1
-  pub small_outer : s.outer_mask < 2 ^ 25
+pub record Nested (outer p inner outer-masks inner-masks : ℕ) (s : Strides) : Type 0 where
+  pub stride : s.stride_a ≡ inner * p + inner-masks
+  pub inner_stride : s.stride_b ≡ p
+  pub inner_p : s.p ≡ p
+  pub outer_mask : s.mask_a ≡ (outer - 1) * s.stride_a + inner * p
+  pub inner_mask : s.mask_b ≡ inner * p
+  pub needed : s.needed ≡ (outer + 1) * s.stride_a + outer-masks - inner-masks - 1
+  pub small_outer : s.mask_a < 2 ^ 25
+  pub small_inner : s.mask_b < 2 ^ 25
