@@ -1,21 +1,22 @@
 // The kinship page (02, U6): a table as lines of text. `specs/Page.antt` tells how.
 // A function put_.. writes from an offset of the buffer on and returns the offset behind.
+// Stays: the offset goes beside the buffer, as in text, since `Writes` and its laws name both.
 #![tactic(auto)]
 
 ghost use Rattle.std.specs.Prelude.{◌≡◌, ◌||◌, [], ◌+◌, ◌*◌, ◌<◌, ◌≤◌, length};
 ghost use Rattle.algebra.specs.Lists.{tab};
-ghost use Rattle.refusal.specs.Chain.{first, outside};
+ghost use Rattle.refusal.specs.Chain.{answered, outside};
+ghost use Rattle.field.specs.Modulus.{prime};
 ghost use Rattle.text.specs.Decimal.{decimal};
 ghost use Rattle.text.specs.Internal.{Writes};
 ghost use Rattle.page.specs.Page.{cell, panels, across, heading, panel, gap, page, page_length, room_for, page_tests, page_after};
-ghost use Rattle.page.specs.Internal.{line_of};
+ghost use Rattle.page.specs.Internal.{line_of, table_tests};
 
-use field::Named;
-use refusal::MOST_SIZE;
-use words::least;
+use field::Modulus;
+use refusal::{MOST_SIZE, Refusal};
 
 // The byte of a space.
-const SPACE: u8 = 32;
+const SPACE: u8 = b' ';
 
 // How many columns a row number has, and an element or a column number.
 const LABEL: usize = 5;
@@ -45,12 +46,13 @@ fn fill_long(out: &mut [u8], n: u32)
     requires { length out.old ≡ 11 }
     ensures { out.new ≡ cell 11 n }
 {
+    let (front, back) = out.split_at_mut(FRONT);
     if n < LARGE {
-        text::fill(&mut out[..FRONT], SPACE);
-        fill_short(&mut out[FRONT..], n);
+        text::fill(front, SPACE);
+        fill_short(back, n);
     } else {
-        fill_short(&mut out[..FRONT], n / LARGE);
-        text::put_last_digits(&mut out[FRONT..], n);
+        fill_short(front, n / LARGE);
+        text::put_last_digits(back, n);
     }
 }
 
@@ -71,10 +73,7 @@ fn put_cell(out: &mut [u8], at: usize, width: usize, n: u32) -> usize
     requires { length (decimal n) ≤ width }
     ensures { Writes out.old at (cell width n) out.new result }
 {
-    if out.len() < at {
-        return at;
-    }
-    if out.len() - at < width {
+    if out.len() < at || out.len() - at < width {
         return at;
     }
     let end = at + width;
@@ -83,44 +82,25 @@ fn put_cell(out: &mut [u8], at: usize, width: usize, n: u32) -> usize
 }
 
 // Writes the numbers of a line, and its end.
+#[tactic(auto, using(crate::proofs::Lengths::number_fits))]
 fn put_numbers(out: &mut [u8], at: usize, numbers: &[u32]) -> usize
     ensures { Writes out.old at (line_of [] numbers.now) out.new result }
 {
     let mut next = at;
-    let mut c = 0;
-    while c < numbers.len() {
-        next = put_cell(out, next, CELL, numbers[c]);
-        c += 1;
+    for number in numbers {
+        next = put_cell(out, next, CELL, *number);
     }
     text::put_bytes(out, next, b"\n")
 }
 
-// How many columns stand in a panel.
-fn panel_width(r: usize, p: usize) -> usize
-    requires { r ≤ 16384 × p < panels r }
-    ensures { result ≡ across r p }
-{
-    least(MOST_ACROSS, r - p * MOST_ACROSS)
-}
-
 // The numbers of six columns, from a panel's first on.
+#[tactic(auto, unfolding(algebra::specs::Lists::tab))]
 fn six_columns(p: usize) -> [u32; MOST_ACROSS]
     requires { p ≤ 16384 }
     ensures { result ≡ tab (λ c. p * 6 + c + 1) 6 }
 {
     let first = (p * MOST_ACROSS) as u32 + 1;
     [first, first + 1, first + 2, first + 3, first + 4, first + 5]
-}
-
-// Writes the heading of a panel.
-fn put_heading(out: &mut [u8], at: usize, r: usize, p: usize) -> usize
-    requires { r ≤ 16384 × p < panels r }
-    ensures { Writes out.old at (heading r p) out.new result }
-{
-    let columns = six_columns(p);
-    let count = panel_width(r, p);
-    let next = text::put_bytes(out, at, b"     ");
-    put_numbers(out, next, &columns[..count])
 }
 
 // Writes a line: a row number and elements.
@@ -132,25 +112,8 @@ fn put_row(out: &mut [u8], at: usize, number: u32, elements: &[u32]) -> usize
     put_numbers(out, next, elements)
 }
 
-// Writes a panel.
-fn put_panel(out: &mut [u8], at: usize, t: usize, r: usize, table: &[u32], p: usize) -> usize
-    requires { t ≤ 16384 × r ≤ 16384 × length table.now ≡ t * r × p < panels r }
-    ensures { Writes out.old at (panel t r table.now p) out.new result }
-{
-    let left = p * MOST_ACROSS;
-    let count = panel_width(r, p);
-    let mut next = put_heading(out, at, r, p);
-    let mut i = 0;
-    while i < t {
-        let start = i * r + left;
-        let end = start + count;
-        next = put_row(out, next, i as u32 + 1, &table[start..end]);
-        i += 1;
-    }
-    next
-}
-
 // Writes what stands before a panel.
+#[tactic(auto, using(text::proofs::Writes::writes_nothing), unfolding(crate::specs::Page::gap))]
 fn put_gap(out: &mut [u8], at: usize, p: usize) -> usize
     ensures { Writes out.old at (gap p) out.new result }
 {
@@ -161,6 +124,7 @@ fn put_gap(out: &mut [u8], at: usize, p: usize) -> usize
 }
 
 // How many panels a table has.
+#[tactic(auto, unfolding(crate::specs::Page::panels))]
 fn panel_count(r: usize) -> usize
     requires { r ≤ 16384 }
     ensures { result ≡ panels r }
@@ -176,6 +140,7 @@ fn size_test(t: u32, r: u32) -> bool
 }
 
 // How many bytes a page has.
+#[tactic(auto, unfolding(crate::specs::Page::panels, crate::specs::Page::page_length))]
 fn length_of(t: usize, r: usize) -> usize
     requires { t ≤ 16384 × 1 ≤ r × r ≤ 16384 }
     ensures { result ≡ page_length t r }
@@ -185,6 +150,7 @@ fn length_of(t: usize, r: usize) -> usize
 }
 
 // How many bytes the output of a page must have; 0 where a size is out of range.
+#[tactic(auto, unfolding(crate::specs::Page::room_for))]
 pub fn page_length(t: u32, r: u32) -> usize
     ensures { result ≡ room_for t r }
 {
@@ -194,45 +160,114 @@ pub fn page_length(t: u32, r: u32) -> usize
     length_of(t as usize, r as usize)
 }
 
-// Writes the page to the front of the output, and returns its length.
-fn put_page(out: &mut [u8], t: usize, r: usize, table: &[u32]) -> usize
-    requires { t ≤ 16384 × r ≤ 16384 × length table.now ≡ t * r }
-    ensures { Writes out.old 0 (page t r table.now) out.new result }
-{
-    let count = panel_count(r);
-    let mut next = 0;
-    let mut p = 0;
-    while p < count {
-        next = put_gap(out, next, p);
-        next = put_panel(out, next, t, r, table, p);
-        p += 1;
-    }
-    next
+// A table within the limits, row by row.
+#[derive(Clone, Copy)]
+struct Table<'a> {
+    rows: usize,
+    columns: usize,
+    elements: &'a [u32],
+    ghost tall: { rows ≤ 16384 },
+    ghost wide: { columns ≤ 16384 },
+    ghost whole: { length elements.now ≡ rows * columns },
 }
 
-// Writes a table of t rows and r columns as a page: the output then holds it, or the call is refused by number and the output
-// stays as it was.
-pub fn write_page(modulus: u32, t: u32, r: u32, table: &[u32], out: &mut [u8]) -> u32
-    ensures number { let room = length out.old in result ≡ first (page_tests modulus t r table.now room) }
-    ensures text { out.new ≡ page_after modulus t r table.now out.old }
+impl Table<'_> {
+    // How many columns stand in a panel.
+    #[tactic(auto, unfolding(crate::specs::Page::panels, crate::specs::Page::across))]
+    fn panel_width(&self, p: usize) -> usize
+        requires { p < panels self.now.columns }
+        ensures { result ≡ across self.now.columns p }
+    {
+        (self.columns - p * MOST_ACROSS).min(MOST_ACROSS)
+    }
+
+    // Writes the heading of a panel.
+    #[tactic(auto, unfolding(crate::specs::Page::panels))]
+    fn put_heading(&self, out: &mut [u8], at: usize, p: usize) -> usize
+        requires { p < panels self.now.columns }
+        ensures { Writes out.old at (heading self.now.columns p) out.new result }
+    {
+        let columns = six_columns(p);
+        let count = self.panel_width(p);
+        let next = text::put_bytes(out, at, b"     ");
+        put_numbers(out, next, &columns[..count])
+    }
+
+    // Writes a panel.
+    #[tactic(auto, unfolding(crate::specs::Page::panels))]
+    fn put_panel(&self, out: &mut [u8], at: usize, p: usize) -> usize
+        requires { p < panels self.now.columns }
+        ensures { let t = self.now in
+            Writes out.old at (panel t.rows t.columns t.elements.now p) out.new result }
+    {
+        let left = p * MOST_ACROSS;
+        let count = self.panel_width(p);
+        let elements = self.elements;
+        let mut next = self.put_heading(out, at, p);
+        for i in 0..self.rows {
+            let start = i * self.columns + left;
+            let end = start + count;
+            next = put_row(out, next, i as u32 + 1, &elements[start..end]);
+        }
+        next
+    }
+
+    // Writes the page to the front of the output, and returns its length.
+    fn put_page(&self, out: &mut [u8]) -> usize
+        ensures { let t = self.now in
+            Writes out.old 0 (page t.rows t.columns t.elements.now) out.new result }
+    {
+        let mut next = 0;
+        for p in 0..panel_count(self.columns) {
+            next = put_gap(out, next, p);
+            next = self.put_panel(out, next, p);
+        }
+        next
+    }
+}
+
+// The tests of a page at a modulus: 2, 13, 28 and 14.
+#[tactic(auto, unfolding(crate::specs::Internal::table_tests, refusal::specs::Chain::answered, refusal::specs::Chain::outcome, refusal::specs::Chain::first, refusal::specs::Numbers::refusal_of, refusal::specs::Numbers::sheet))]
+fn check_table(modulus: Modulus, t: u32, r: u32, table: &[u32], room: usize) -> Result<(), Refusal>
+    ensures { result ≡ answered (table_tests (prime modulus) t r table.now room) tt }
 {
-    let Named::Is(named) = field::modulus_named(modulus) else {
-        return refusal::MODULUS;
-    };
     if size_test(t, r) {
-        return refusal::SIZE;
+        return Err(Refusal::Size);
     }
     let rows = t as usize;
     let columns = r as usize;
     if table.len() != rows * columns {
-        return refusal::LENGTH;
+        return Err(Refusal::Length);
     }
-    if out.len() != length_of(rows, columns) {
-        return refusal::PAGE;
+    if room != length_of(rows, columns) {
+        return Err(Refusal::Page);
     }
-    if !field::all_below(named, table) {
-        return refusal::ELEMENT;
+    if !field::all_below(modulus, table) {
+        return Err(Refusal::Element);
     }
-    put_page(out, rows, columns, table);
-    0
+    Ok(())
+}
+
+// Writes a table of t rows and r columns as a page: the output then holds it, or the call is refused and the output stays as it
+// was.
+pub fn write_page(
+    modulus: u32,
+    t: u32,
+    r: u32,
+    table: &[u32],
+    out: &mut [u8],
+) -> Result<(), Refusal>
+    ensures number { let room = length out.old in
+        result ≡ answered (page_tests modulus t r table.now room) tt }
+    ensures text { out.new ≡ page_after modulus t r table.now out.old }
+{
+    let named = Modulus::try_from(modulus)?;
+    check_table(named, t, r, table, out.len())?;
+    let whole = Table {
+        rows: t as usize,
+        columns: r as usize,
+        elements: table,
+    };
+    whole.put_page(out);
+    Ok(())
 }

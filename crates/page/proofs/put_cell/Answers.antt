@@ -8,16 +8,14 @@ use Rattle.text.proofs.Writes.{writes_over, writes_part}
 use Rattle.page.specs.Page.{cell}
 use Rattle.page.proofs.Lengths.{length_cell}
 use Rattle.page.proofs.put_cell.Goals as goal
+use Rattle.page.proofs.put_cell.Goals.{then-out-at-via-then-out-at, then-out-at-via-else-out-at+then-out-at-2}
 
 pub returns-then-out-at : goal.returns-then-out-at
 returns-then-out-at c =
     let a = c.args in
-    writes_over a.out.now a.at (cell a.width a.n) (omega (arith, length_cell a.width a.n c.requires))
-
-pub returns-then-out-at-2 : goal.returns-then-out-at-2
-returns-then-out-at-2 c =
-    let a = c.args in
-    writes_over a.out.now a.at (cell a.width a.n) (omega (arith, length_cell a.width a.n c.requires))
+    let wide = length_cell a.width a.n c.requires in
+    writes_over a.out.now a.at (cell a.width a.n)
+    (elim c.then-out-at.branch [ then-out-at-via-then-out-at w ↦ omega arith | then-out-at-via-else-out-at+then-out-at-2 w ↦ omega arith ])
 
 pub returns : goal.returns
 returns c =
