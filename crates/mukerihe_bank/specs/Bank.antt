@@ -6,12 +6,13 @@
 --   counted n words tests     == the tests of a call that takes n words: 1002, then the others
 --   if_counted n words made was == `made` where there are n words, and otherwise what it was
 --   already_after before r     == 1 where an arrival is in already, 0 where it is taken, what stood there where it is refused
-use Rattle.std.specs.Prelude.{List, [], ◌∷◌, ℕ, length, get_or}
+use Rattle.std.specs.Prelude.{List, [], ◌∷◌, ℕ, length, get_or, Result, Ok, Err}
+use Rattle.refusal.specs.declared.Refusal.{Refusal}
 use Rattle.refusal.specs.Chain.{Test, unless_refused, differs}
 use Rattle.plan.specs.declared.Job.{Job}
 use Rattle.message_header.specs.declared.Header.{Header}
 use Rattle.arrival.specs.declared.Arrived.{Arrived}
-use Rattle.arrival.specs.declared.Arrived.TheVariants.{Taken, AlreadyIn, Refused}
+use Rattle.arrival.specs.declared.Arrived.TheVariants.{Taken, AlreadyIn}
 
 unfoldable pub job_of : List ℕ → Job
 job_of words = record {
@@ -46,7 +47,7 @@ counted n words tests = (differs (length words) n, 1002) ∷ tests
 unfoldable pub if_counted : {A : Type 0} → ℕ → List ℕ → A → A → A
 if_counted n words made was = unless_refused (counted n words []) made was
 
-unfoldable pub already_after : ℕ → Arrived → ℕ
-already_after before (Taken heard) = 0
-already_after before AlreadyIn = 1
-already_after before (Refused n) = before
+unfoldable pub already_after : ℕ → Result Arrived Refusal → ℕ
+already_after before (Ok (Taken heard)) = 0
+already_after before (Ok AlreadyIn) = 1
+already_after before (Err r) = before

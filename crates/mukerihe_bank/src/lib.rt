@@ -3,7 +3,7 @@
 #![tactic(auto)]
 
 ghost use Rattle.std.specs.Prelude.{◌≡◌, length};
-ghost use Rattle.refusal.specs.Chain.{first, unless_refused};
+ghost use Rattle.refusal.specs.Chain.{first, unless_refused, number_in};
 ghost use Rattle.field.specs.Modulus.{modulus as modulus_modulus};
 ghost use Rattle.field_signed.specs.Signed.{signed, signed_tests, element as signed_element, element_tests};
 ghost use Rattle.plan.specs.Planning.{plan_tests, plan_values};
@@ -19,11 +19,9 @@ ghost use Rattle.page.specs.Page.{page_tests, page_after, room_for};
 ghost use Rattle.mukerihe_bank.specs.Bank.{job_of, header_of, counted, if_counted, already_after};
 
 use arrival::Arrived;
-use field_signed::{Element, Signed};
-use masks::Drawn;
-use message::Parsed;
 use message_header::Header;
-use plan::{Job, Planned};
+use plan::Job;
+use refusal::Refusal;
 use share::Matrix;
 
 // How many words a job has, a message's fields, and what planning tells.
@@ -33,8 +31,15 @@ const FIELD_WORDS: usize = 6;
 
 const PLAN_WORDS: usize = 5;
 
-// A number of the libraries' own: a job, fields or the values of a plan are not so many words.
-const COUNT: u32 = 1002;
+// What C is told of a call: 0 where it is carried out, and otherwise the number of its refusal.
+fn number_of(outcome: Result<(), Refusal>) -> u32
+    ensures { result ≡ number_in outcome }
+{
+    match outcome {
+        Ok(()) => 0,
+        Err(refusal) => refusal.number(),
+    }
+}
 
 // The job of 13 words.
 fn job_of(words: &[u32]) -> Job
@@ -84,20 +89,18 @@ pub extern "C" fn mukerihe_plan(job: &[u32], points: &[u32], values: &mut [u32])
         values.new ≡ unless_refused (counted 13 words (counted 5 was tests)) (plan_values (job_of words)) was }
 {
     if (job.len() != JOB_WORDS) | (values.len() != PLAN_WORDS) {
-        return COUNT;
+        return Refusal::Count.number();
     }
-    let planned = plan::plan_job(job_of(job), points);
-    match planned {
-        Planned::Refused(number) => number,
-        Planned::Accepted(plan) => {
-            let layout = plan.layout;
-            values[0] = layout::number_of(layout);
+    match plan::plan_job(job_of(job), points) {
+        Ok(plan) => {
+            values[0] = u32::from(plan.layout);
             values[1] = plan.needed;
             values[2] = plan.rows;
             values[3] = plan.inner;
             values[4] = plan.columns;
             0
         }
+        Err(refusal) => refusal.number(),
     }
 }
 
@@ -115,13 +118,12 @@ pub extern "C" fn mukerihe_draw(
         let count = drawing_used (modulus_modulus modulus) n given in
         used.new ≡ unless_refused (draw_tests modulus given n) count used.old }
 {
-    let drawn = masks::draw_masks(modulus, words, out);
-    match drawn {
-        Drawn::Refused(number) => number,
-        Drawn::Used(count) => {
+    match masks::draw_masks(modulus, words, out) {
+        Ok(count) => {
             *used = count;
             0
         }
+        Err(refusal) => refusal.number(),
     }
 }
 
@@ -143,9 +145,9 @@ fn share_of(
         out.new ≡ if_counted 13 words (share_after matrix (job_of words) points.now host xs ms was) was }
 {
     if job.len() != JOB_WORDS {
-        return COUNT;
+        return Refusal::Count.number();
     }
-    share::share(matrix, job_of(job), points, host, elements, masks, out)
+    number_of(share::share(matrix, job_of(job), points, host, elements, masks, out))
 }
 
 // A host's share of A.
@@ -204,7 +206,7 @@ pub extern "C" fn mukerihe_multiply(
     ensures block { let left = a.now in let right = b.now in
         out.new ≡ product_after modulus rows inner columns left right out.old }
 {
-    product::product(modulus, rows, inner, columns, a, b, out)
+    number_of(product::product(modulus, rows, inner, columns, a, b, out))
 }
 
 // Writes a message with these 6 fields and elements.
@@ -216,9 +218,9 @@ pub extern "C" fn mukerihe_write(fields: &[u32], elements: &[u32], out: &mut [u8
         out.new ≡ if_counted 6 words (written (header_of words) elements.now was) was }
 {
     if fields.len() != FIELD_WORDS {
-        return COUNT;
+        return Refusal::Count.number();
     }
-    message::write_message(header_of(fields), elements, out)
+    number_of(message::write_message(header_of(fields), elements, out))
 }
 
 // Reads a message: its elements, and its 6 fields. It is refused by number, and then both stay as they were.
@@ -233,12 +235,10 @@ pub extern "C" fn mukerihe_read(message: &[u8], elements: &mut [u32], fields: &m
         ≡ unless_refused (counted 6 was (read_tests bytes (length elements.old))) (header_fields (header_header_of bytes)) was }
 {
     if fields.len() != FIELD_WORDS {
-        return COUNT;
+        return Refusal::Count.number();
     }
-    let parsed = message::read_message(message, elements);
-    match parsed {
-        Parsed::Refused(number) => number,
-        Parsed::Fields(h) => {
+    match message::read_message(message, elements) {
+        Ok(h) => {
             fields[0] = h.kind;
             fields[1] = h.modulus;
             fields[2] = h.host;
@@ -247,6 +247,7 @@ pub extern "C" fn mukerihe_read(message: &[u8], elements: &mut [u32], fields: &m
             fields[5] = h.number;
             0
         }
+        Err(refusal) => refusal.number(),
     }
 }
 
@@ -276,20 +277,19 @@ pub extern "C" fn mukerihe_arrive(
         already.new ≡ if_counted 13 words (already_after before outcome) before }
 {
     if job.len() != JOB_WORDS {
-        return COUNT;
+        return Refusal::Count.number();
     }
-    let arrived = arrival::arrive(job_of(job), points, *heard, store, message, minute);
-    match arrived {
-        Arrived::Refused(number) => number,
-        Arrived::AlreadyIn => {
+    match arrival::arrive(job_of(job), points, *heard, store, message, minute) {
+        Ok(Arrived::AlreadyIn) => {
             *already = 1;
             0
         }
-        Arrived::Taken(after) => {
+        Ok(Arrived::Taken(after)) => {
             *heard = after;
             *already = 0;
             0
         }
+        Err(refusal) => refusal.number(),
     }
 }
 
@@ -308,9 +308,9 @@ pub extern "C" fn mukerihe_decode(
         table.new ≡ if_counted 13 words (table_after (job_of words) points.now heard held was) was }
 {
     if job.len() != JOB_WORDS {
-        return COUNT;
+        return Refusal::Count.number();
     }
-    decode::decode(job_of(job), points, heard, store, table)
+    number_of(decode::decode(job_of(job), points, heard, store, table))
 }
 
 // The signed reading of an element: value is then it, or the call is refused by number and value stays as it was.
@@ -320,13 +320,12 @@ pub extern "C" fn mukerihe_signed(modulus: u32, element: u32, value: &mut i64) -
     ensures value { value.new
         ≡ unless_refused (signed_tests modulus element) (signed (modulus_modulus modulus) element) value.old }
 {
-    let reading = field_signed::signed_reading(modulus, element);
-    match reading {
-        Signed::Refused(number) => number,
-        Signed::Value(read) => {
+    match field_signed::signed_reading(modulus, element) {
+        Ok(read) => {
             *value = read;
             0
         }
+        Err(refusal) => refusal.number(),
     }
 }
 
@@ -338,13 +337,12 @@ pub extern "C" fn mukerihe_element(modulus: u32, value: i64, element: &mut u32) 
     ensures element { element.new
         ≡ unless_refused (element_tests modulus value) (signed_element (modulus_modulus modulus) value) element.old }
 {
-    let back = field_signed::element_of(modulus, value);
-    match back {
-        Element::Refused(number) => number,
-        Element::Value(found) => {
+    match field_signed::element_of(modulus, value) {
+        Ok(found) => {
             *element = found;
             0
         }
+        Err(refusal) => refusal.number(),
     }
 }
 
@@ -362,5 +360,5 @@ pub extern "C" fn mukerihe_page(modulus: u32, t: u32, r: u32, table: &[u32], out
     ensures number { let room = length out.old in result ≡ first (page_tests modulus t r table.now room) }
     ensures text { out.new ≡ page_after modulus t r table.now out.old }
 {
-    page::write_page(modulus, t, r, table, out)
+    number_of(page::write_page(modulus, t, r, table, out))
 }

@@ -4,16 +4,12 @@
 #![tactic(auto)]
 
 ghost use Rattle.std.specs.Prelude.{◌≡◌, ◌≤◌, length};
-ghost use Rattle.io.specs.Counts.{IsPrefixLen};
 
-use field_signed::{Element, Signed};
-use masks::Drawn;
-use message::Parsed;
 use message_header::Header;
-use plan::{Job, Planned};
+use plan::Plan;
+use refusal::Refusal;
 use share::Matrix;
-use test_io::STDOUT_FILENO;
-use words::least;
+use test_io::{STDOUT_FILENO, filled, job_of, put_number, put_outcome, put_words, room};
 
 // Where the lists of a case end, one after another.
 #[derive(Clone, Copy)]
@@ -41,10 +37,8 @@ const HEAD_WORDS: usize = 20;
 // The program ends, however long its input is.
 const MOST_CASES: u32 = 1000000;
 
-// A number of 64 bits is a high word times 2^32 and a low one. The largest signed one is below 2^63.
+// A number of 64 bits is a high word times 2^32 and a low one.
 const WORD: u64 = 0x1_0000_0000;
-
-const MOST_SIGNED: u64 = 0x7FFF_FFFF_FFFF_FFFF;
 
 // The largest number of a word: what is told of a larger one.
 const MOST_TOLD: usize = 0xFFFF_FFFF;
@@ -62,91 +56,27 @@ fn ends_of(points: u32, xs: u32, ys: u32) -> Ends
     }
 }
 
-// Zeros for the lists. Of this and the next three, lending needs the length alone.
-fn list_words() -> [u32; MOST_WORDS]
-    ensures { 32896 ≡ length result }
-{
-    [0; MOST_WORDS]
-}
-
-// An output of bytes for a message to write, or room for one or two to read.
-fn filled_message() -> [u8; MOST_BYTES]
-    ensures { 40000 ≡ length result }
-{
-    [FILLING_BYTE; MOST_BYTES]
-}
-
-// An output of elements.
-fn filled_output() -> [u32; MOST_ELEMENTS]
-    ensures { 8192 ≡ length result }
-{
-    [test_io::FILLING; MOST_ELEMENTS]
-}
-
-// An output of bytes for a page.
-fn filled_page() -> [u8; MOST_PAGE]
-    ensures { 400000 ≡ length result }
-{
-    [FILLING_BYTE; MOST_PAGE]
-}
-
-// How many bytes there are up to the last that is not the filling.
-fn filled_bytes(out: &[u8]) -> usize
-    ensures { IsPrefixLen result out.now }
-{
-    let mut n = out.len();
-    while 0 < n {
-        if out[n - 1] != FILLING_BYTE {
-            return n;
-        }
-        n -= 1;
-    }
-    0
-}
-
 // Writes an output of bytes: how many there are up to the last that is not the filling, and these.
 fn put_bytes(out: &[u8])
     requires { length out.now ≤ 400000 }
 {
-    let n = filled_bytes(out);
-    test_io::put_number(n as u32);
+    let n = filled(out, FILLING_BYTE);
+    put_number(n as u32);
     io::write_all(STDOUT_FILENO, &out[..n]);
 }
 
-// The job of a plan or a share.
-fn job_of(head: [u32; HEAD_WORDS]) -> Job {
-    Job {
-        modulus: head[1],
-        t: head[2],
-        s: head[3],
-        r: head[4],
-        m: head[5],
-        p: head[6],
-        n: head[7],
-        xa: head[8],
-        xb: head[9],
-        hosts: head[10],
-        number: head[11],
-        opening: head[12],
-        closing: head[13],
-    }
-}
-
-// Writes what planning returns: 0, the layout's number, K, and rows, inner and columns of the blocks; or the refusal number.
-fn put_planned(outcome: Planned) {
+// Writes what planning returns: 0, the layout's number, K, and rows, inner and columns of the blocks; or the refusal's number.
+fn put_planned(outcome: Result<Plan, Refusal>) {
     match outcome {
-        Planned::Refused(number) => test_io::put_number(number),
-        Planned::Accepted(plan) => {
-            let layout = plan.layout;
-            test_io::put_words(&[
-                0,
-                layout::number_of(layout),
-                plan.needed,
-                plan.rows,
-                plan.inner,
-                plan.columns,
-            ]);
-        }
+        Ok(plan) => put_words(&[
+            0,
+            u32::from(plan.layout),
+            plan.needed,
+            plan.rows,
+            plan.inner,
+            plan.columns,
+        ]),
+        Err(refusal) => put_number(refusal.number()),
     }
 }
 
@@ -158,72 +88,47 @@ fn run_share(
     xs: &[u32],
     masks: &[u32],
     out: &mut [u32],
-) -> u32 {
-    let job = job_of(head);
-    share::share(matrix, job, points, head[14], xs, masks, out)
+) -> Result<(), Refusal> {
+    share::share(matrix, job_of(&head), points, head[14], xs, masks, out)
 }
 
-// Makes a product.
-fn run_product(head: [u32; HEAD_WORDS], a: &[u32], b: &[u32], out: &mut [u32]) -> u32 {
-    product::product(head[1], head[2], head[3], head[4], a, b, out)
-}
-
-// Writes what reading a message returns: 0 and the fields, or the refusal number.
-fn put_parsed(parsed: Parsed) {
-    match parsed {
-        Parsed::Refused(number) => test_io::put_number(number),
-        Parsed::Fields(h) => test_io::put_words(&[
-            0, h.kind, h.modulus, h.host, h.rows, h.columns, h.number,
-        ]),
+// Writes what reading a message returns: 0 and the fields, or the refusal's number.
+fn put_read(outcome: Result<Header, Refusal>) {
+    match outcome {
+        Ok(h) => put_words(&[0, h.kind, h.modulus, h.host, h.rows, h.columns, h.number]),
+        Err(refusal) => put_number(refusal.number()),
     }
 }
 
-// The signed value of two words, in two's complement: a value below 0 is another with every bit turned.
+// The signed value of two words, in two's complement.
 fn signed_value(high: u32, low: u32) -> i64 {
-    let bits = high as u64 * WORD + low as u64;
-    if bits <= MOST_SIGNED {
-        return bits as i64;
-    }
-    !(!bits as i64)
+    (u64::from(high) * WORD + u64::from(low)).cast_signed()
 }
 
-// The 64 bits of a signed value: the same way back.
-fn bits_of(value: i64) -> u64 {
-    if value < 0 {
-        return !(!value as u64);
-    }
-    value as u64
-}
-
-// Writes what signed reading returns: 0 and the two words of the value, or the refusal number.
-fn put_signed(outcome: Signed) {
+// Writes what signed reading returns: 0 and the two words of the value, or the refusal's number.
+fn put_signed(outcome: Result<i64, Refusal>) {
     match outcome {
-        Signed::Refused(number) => test_io::put_number(number),
-        Signed::Value(value) => {
-            let bits = bits_of(value);
-            test_io::put_words(&[0, (bits / WORD) as u32, (bits % WORD) as u32]);
+        Ok(value) => {
+            let bits = value.cast_unsigned();
+            put_words(&[0, (bits / WORD) as u32, (bits % WORD) as u32]);
         }
+        Err(refusal) => put_number(refusal.number()),
     }
 }
 
-// Writes what the way back returns: 0 and the element, or the refusal number.
-fn put_element(outcome: Element) {
+// Writes what the way back returns: 0 and the element, or the refusal's number.
+fn put_element(outcome: Result<u32, Refusal>) {
     match outcome {
-        Element::Refused(number) => test_io::put_number(number),
-        Element::Value(v) => test_io::put_words(&[0, v]),
+        Ok(element) => put_words(&[0, element]),
+        Err(refusal) => put_number(refusal.number()),
     }
 }
 
-// Takes a signed value back to its element.
-fn run_way_back(head: [u32; HEAD_WORDS]) -> Element {
-    field_signed::element_of(head[1], signed_value(head[2], head[3]))
-}
-
-// Writes what a drawing returns: 0 and how many words were used, or the refusal number.
-fn put_drawn(outcome: Drawn) {
+// Writes what a drawing returns: 0 and how many words were used, or the refusal's number.
+fn put_drawn(outcome: Result<usize, Refusal>) {
     match outcome {
-        Drawn::Refused(number) => test_io::put_number(number),
-        Drawn::Used(used) => test_io::put_words(&[0, least(used, MOST_WORDS) as u32]),
+        Ok(used) => put_words(&[0, used.min(MOST_WORDS) as u32]),
+        Err(refusal) => put_number(refusal.number()),
     }
 }
 
@@ -236,16 +141,22 @@ fn run_call(
     message: &[u8],
     out: &mut [u32],
 ) -> bool {
+    // Stays: the number of a call is the cases' format, and a table of closures for these calls would be no plainer.
     let call = head[0];
     match call {
-        1 => test_io::put_number(run_share(Matrix::A, head, points, xs, ys, out)),
-        2 => test_io::put_number(run_share(Matrix::B, head, points, xs, ys, out)),
-        3 => test_io::put_number(run_product(head, xs, ys, out)),
-        5 => put_parsed(message::read_message(message, out)),
+        1 => put_outcome(run_share(Matrix::A, head, points, xs, ys, out)),
+        2 => put_outcome(run_share(Matrix::B, head, points, xs, ys, out)),
+        3 => put_outcome(product::product(
+            head[1], head[2], head[3], head[4], xs, ys, out,
+        )),
+        5 => put_read(message::read_message(message, out)),
         6 => put_signed(field_signed::signed_reading(head[1], head[2])),
-        7 => put_element(run_way_back(head)),
+        7 => put_element(field_signed::element_of(
+            head[1],
+            signed_value(head[2], head[3]),
+        )),
         8 => put_drawn(masks::draw_masks(head[1], xs, out)),
-        10 => put_planned(plan::plan_job(job_of(head), points)),
+        10 => put_planned(plan::plan_job(job_of(&head), points)),
         _ => return false,
     }
     true
@@ -259,25 +170,25 @@ fn print_call(
     ys: &[u32],
     message: &[u8],
 ) -> bool {
-    let room = head[19] as usize;
-    if MOST_ELEMENTS < room {
+    let count = head[19] as usize;
+    if MOST_ELEMENTS < count {
         return false;
     }
-    let mut out = filled_output();
-    if !run_call(head, points, xs, ys, message, &mut out[..room]) {
+    let mut out = room::<u32, MOST_ELEMENTS>(test_io::FILLING);
+    if !run_call(head, points, xs, ys, message, &mut out[..count]) {
         return false;
     }
-    test_io::put_output(&out[..room]);
+    test_io::put_output(&out[..count]);
     true
 }
 
 // Answers a case of a message to write; false where its output is too long.
 fn print_write(head: [u32; HEAD_WORDS], xs: &[u32]) -> bool {
-    let room = head[19] as usize;
-    if MOST_BYTES < room {
+    let count = head[19] as usize;
+    if MOST_BYTES < count {
         return false;
     }
-    let mut out = filled_message();
+    let mut out = room::<u8, MOST_BYTES>(FILLING_BYTE);
     let header = Header {
         kind: head[1],
         modulus: head[2],
@@ -286,57 +197,51 @@ fn print_write(head: [u32; HEAD_WORDS], xs: &[u32]) -> bool {
         columns: head[5],
         number: head[6],
     };
-    let number = message::write_message(header, xs, &mut out[..room]);
-    test_io::put_number(number);
-    put_bytes(&out[..room]);
+    put_outcome(message::write_message(header, xs, &mut out[..count]));
+    put_bytes(&out[..count]);
     true
 }
 
 // Answers a case of a page to write; false where its output is too long.
 fn print_page(head: [u32; HEAD_WORDS], table: &[u32]) -> bool {
-    let room = head[19] as usize;
-    if MOST_PAGE < room {
+    let count = head[19] as usize;
+    if MOST_PAGE < count {
         return false;
     }
-    let mut out = filled_page();
-    let number = page::write_page(head[1], head[2], head[3], table, &mut out[..room]);
-    test_io::put_number(number);
-    put_bytes(&out[..room]);
+    let mut out = room::<u8, MOST_PAGE>(FILLING_BYTE);
+    let outcome = page::write_page(head[1], head[2], head[3], table, &mut out[..count]);
+    put_outcome(outcome);
+    put_bytes(&out[..count]);
     true
 }
 
-// Answers a case of a host's whole part: its number, how many bytes were written, which is the filling before the call, and the
-// output. Both messages are lent as one; false where the first is longer than both, or the output is too long.
+// Answers a case of a host's whole part: 0 or its refusal's number, how many bytes were written, where it is refused the filling,
+// and the output. Both messages are lent as one; false where the first is longer than both, or the output is too long.
 fn print_answer(head: [u32; HEAD_WORDS], messages: &[u8]) -> bool {
     let first = head[1] as usize;
-    let room = head[19] as usize;
-    if messages.len() < first {
+    let count = head[19] as usize;
+    if messages.len() < first || MOST_BYTES < count {
         return false;
     }
-    if MOST_BYTES < room {
-        return false;
+    let (a, b) = messages.split_at(first);
+    let mut out = room::<u8, MOST_BYTES>(FILLING_BYTE);
+    match mukerihe::mukerihe_answer(a, b, &mut out[..count]) {
+        Ok(written) => put_words(&[0, written.min(MOST_TOLD) as u32]),
+        Err(refusal) => put_words(&[refusal.number(), test_io::FILLING]),
     }
-    let mut out = filled_message();
-    let mut written = test_io::FILLING as usize;
-    let number = mukerihe::mukerihe_answer(
-        &messages[..first],
-        &messages[first..],
-        &mut out[..room],
-        &mut written,
-    );
-    test_io::put_words(&[number, least(written, MOST_TOLD) as u32]);
-    put_bytes(&out[..room]);
+    put_bytes(&out[..count]);
     true
 }
 
 // Reads the message of a case and runs it; false where it is over the limits, or the input ends in it.
 fn run_message(head: [u32; HEAD_WORDS], points: &[u32], xs: &[u32], ys: &[u32]) -> bool {
     let count = head[18] as usize;
-    let mut message = filled_message();
+    let mut message = room::<u8, MOST_BYTES>(0);
     let n = test_io::read_bytes(count, &mut message);
     if n < count {
         return false;
     }
+    // Stays: as in `run_call`.
     let call = head[0];
     match call {
         4 => print_write(head, xs),
@@ -361,15 +266,14 @@ fn run_lists(head: [u32; HEAD_WORDS], lists: &[u32]) -> bool {
 // Reads the lists of a case and runs it; false where it is over the limits, or the input ends in it.
 fn run_case(head: [u32; HEAD_WORDS]) -> bool {
     let ends = ends_of(head[15], head[16], head[17]);
-    let mut lists = list_words();
+    let mut lists = room::<u32, MOST_WORDS>(0);
     let n = test_io::read_words(ends.ys, &mut lists);
     run_lists(head, &lists[..n])
 }
 
 // Answers one case after another, until one is over the limits or the input is at its end.
 fn main() {
-    let mut left = MOST_CASES;
-    while 0 < left {
+    for _ in 0..MOST_CASES {
         let mut head = [0u32; HEAD_WORDS];
         let n = test_io::read_words(HEAD_WORDS, &mut head);
         if n < HEAD_WORDS {
@@ -378,6 +282,5 @@ fn main() {
         if !run_case(head) {
             return;
         }
-        left -= 1;
     }
 }

@@ -6,11 +6,10 @@
 ghost use Rattle.std.specs.Prelude.{◌≡◌, ◌<◌, ◌≤◌, length};
 
 use arrival::Arrived;
-use message_header::Header;
+use message_header::{Header, Kind};
 use plan::Job;
+use refusal::Refusal;
 use share::Matrix;
-use std::num::wrapping_add_u32;
-use words::least;
 
 // The file descriptor of standard output.
 const STDOUT_FILENO: i32 = 1;
@@ -68,11 +67,9 @@ fn fill(seed: u32, out: &mut [u32])
     ensures { length out.new ≡ length out.old }
 {
     let mut x = seed;
-    let mut i = 0;
-    while i < out.len() {
+    for element in out.iter_mut() {
         x = (x * 75 + 74) % PRIME;
-        out[i] = x;
-        i += 1;
+        *element = x;
     }
 }
 
@@ -80,19 +77,15 @@ fn fill(seed: u32, out: &mut [u32])
 fn set_points(out: &mut [u32])
     requires { length out.old ≤ 20 }
 {
-    let mut x = 3;
-    let mut i = 0;
-    while i < out.len() {
-        out[i] = x;
-        x += 7;
-        i += 1;
+    for (i, point) in out.iter_mut().enumerate() {
+        *point = 3 + 7 * i as u32;
     }
 }
 
 // The fields of a host's answer.
 fn header_of(host: u32) -> Header {
     Header {
-        kind: 3,
+        kind: u32::from(Kind::Answer),
         modulus: 2,
         host,
         rows: 2,
@@ -102,69 +95,44 @@ fn header_of(host: u32) -> Header {
 }
 
 // Multiplies two shares and writes the answer's message.
-fn multiply(host: u32, a: &[u32], b: &[u32], message: &mut [u8]) -> u32 {
+fn multiply(host: u32, a: &[u32], b: &[u32], message: &mut [u8]) -> Result<(), Refusal> {
     let mut product = [0u32; BLOCK];
-    let number = product::product(2, 2, 2, 2, a, b, &mut product);
-    if number != 0 {
-        return number;
-    }
+    product::product(2, 2, 2, 2, a, b, &mut product)?;
     message::write_message(header_of(host), &product, message)
+}
+
+// The matrices, and the masks of both.
+#[derive(Clone, Copy)]
+struct Secrets<'a> {
+    a: &'a [u32],
+    b: &'a [u32],
+    masks_a: &'a [u32],
+    masks_b: &'a [u32],
 }
 
 // Writes the answer's message of a host to the front of a buffer.
 fn answer(
     host: u32,
     points: &[u32],
-    a: &[u32],
-    b: &[u32],
-    masks_a: &[u32],
-    masks_b: &[u32],
+    s: Secrets<'_>,
     message: &mut [u8],
-) -> u32 {
+) -> Result<(), Refusal> {
     let mut left = [0u32; BLOCK];
     let mut right = [0u32; BLOCK];
-    let first = share::share(Matrix::A, job(), points, host, a, masks_a, &mut left);
-    if first != 0 {
-        return first;
-    }
-    let second = share::share(Matrix::B, job(), points, host, b, masks_b, &mut right);
-    if second != 0 {
-        return second;
-    }
+    share::share(Matrix::A, job(), points, host, s.a, s.masks_a, &mut left)?;
+    share::share(Matrix::B, job(), points, host, s.b, s.masks_b, &mut right)?;
     multiply(host, &left, &right, message)
 }
 
-// Writes the answers' messages of all hosts, one after another; tells the first number that is not 0.
-fn answer_all(
-    points: &[u32],
-    a: &[u32],
-    b: &[u32],
-    masks_a: &[u32],
-    masks_b: &[u32],
-    messages: &mut [u8],
-) -> u32
-    requires { length messages.old ≡ 640 }
-{
-    let mut index: usize = 0;
-    while index < HOSTS {
+// The answers' messages of all hosts, one after another.
+fn answer_all(points: &[u32], s: Secrets<'_>) -> Result<[u8; MESSAGES], Refusal> {
+    let mut messages = [0u8; MESSAGES];
+    for index in 0..HOSTS {
         let start = index * MESSAGE;
         let end = start + MESSAGE;
-        let host = index as u32 + 1;
-        let number = answer(
-            host,
-            points,
-            a,
-            b,
-            masks_a,
-            masks_b,
-            &mut messages[start..end],
-        );
-        if number != 0 {
-            return number;
-        }
-        index += 1;
+        answer(index as u32 + 1, points, s, &mut messages[start..end])?;
     }
-    0
+    Ok(messages)
 }
 
 // Another byte, 0 or 1.
@@ -174,11 +142,8 @@ fn other_byte(byte: u8) -> u8 {
 
 // A message of a host that is heard, the same as its first, is in already.
 fn is_in_already(points: &[u32], heard: u64, store: &mut [u32], message: &[u8]) -> bool {
-    match arrival::arrive(job(), points, heard, store, message, MINUTE) {
-        Arrived::Refused(_) => false,
-        Arrived::AlreadyIn => true,
-        Arrived::Taken(_) => false,
-    }
+    let outcome = arrival::arrive(job(), points, heard, store, message, MINUTE);
+    matches!(outcome, Ok(Arrived::AlreadyIn))
 }
 
 // A message of a host that is heard, with another last element than its first, is refused with 23.
@@ -187,144 +152,103 @@ fn is_refused(points: &[u32], heard: u64, store: &mut [u32], message: &[u8]) -> 
     message_bytes::copy_bytes(message, &mut other);
     other[30] = 0;
     other[31] = other_byte(other[31]);
-    match arrival::arrive(job(), points, heard, store, &other, MINUTE) {
-        Arrived::Refused(number) => number == refusal::HEARD,
-        Arrived::AlreadyIn => false,
-        Arrived::Taken(_) => false,
-    }
+    let outcome = arrival::arrive(job(), points, heard, store, &other, MINUTE);
+    matches!(outcome, Err(Refusal::Heard))
 }
 
 // Lets a message arrive twice, and then with another element: it must be taken, in already, and refused. Tells the hosts heard
 // then, or none.
 fn arrive_thrice(points: &[u32], heard: u64, store: &mut [u32], message: &[u8]) -> u64 {
     match arrival::arrive(job(), points, heard, store, message, MINUTE) {
-        Arrived::Refused(_) => 0,
-        Arrived::AlreadyIn => 0,
-        Arrived::Taken(after) => {
-            if !is_in_already(points, after, store, message) {
-                return 0;
-            }
-            if !is_refused(points, after, store, message) {
-                return 0;
-            }
+        Ok(Arrived::Taken(after))
+            if is_in_already(points, after, store, message)
+                && is_refused(points, after, store, message) =>
+        {
             after
         }
+        _ => 0,
     }
 }
 
+// What a table is decoded with: the points, the messages of all hosts, and the table that is expected.
+#[derive(Clone, Copy)]
+struct Trial<'a> {
+    points: &'a [u32],
+    messages: &'a [u8; MESSAGES],
+    expected: &'a [u32],
+}
+
+// An order of arrival: from the host at an index on, and so many hosts further each time.
+#[derive(Clone, Copy)]
+struct Order {
+    from: usize,
+    step: usize,
+    ghost inside: { from < 20 × step < 20 },
+}
+
 // Lets the message of the host at an index arrive where the host is in the set; tells the hosts heard then.
-fn hear(
-    set: u64,
-    index: usize,
-    points: &[u32],
-    heard: u64,
-    store: &mut [u32],
-    messages: &[u8],
-) -> u64
-    requires { index < 20 × length messages.now ≡ 640 }
+fn hear(t: Trial<'_>, set: u64, index: usize, heard: u64, store: &mut [u32]) -> u64
+    requires { index < 20 }
 {
     if !arrival_heard::is_heard(set, index as u32) {
         return heard;
     }
     let start = index * MESSAGE;
     let end = start + MESSAGE;
-    arrive_thrice(points, heard, store, &messages[start..end])
+    arrive_thrice(t.points, heard, store, &t.messages[start..end])
 }
 
-// Lets the messages of a set of hosts arrive, from a host on and so many hosts further each time; tells the hosts heard.
-fn hear_set(
-    set: u64,
-    from: usize,
-    step: usize,
-    points: &[u32],
-    store: &mut [u32],
-    messages: &[u8],
-) -> u64
-    requires { from < 20 × step < 20 × length messages.now ≡ 640 }
-{
+// Lets the messages of a set of hosts arrive, in an order; tells the hosts heard.
+fn hear_set(t: Trial<'_>, set: u64, order: Order, store: &mut [u32]) -> u64 {
     let mut heard = 0;
-    let mut index = from;
-    let mut i = 0;
-    while i < HOSTS {
-        heard = hear(set, index, points, heard, store, messages);
-        index = (index + step) % HOSTS;
-        i += 1;
+    let mut index = order.from;
+    for _ in 0..HOSTS {
+        heard = hear(t, set, index, heard, store);
+        index = (index + order.step) % HOSTS;
     }
     heard
 }
 
-// The lists are equal.
-fn same(xs: &[u32], ys: &[u32]) -> bool {
-    let n = least(xs.len(), ys.len());
-    let mut i = 0;
-    while i < n {
-        if xs[i] != ys[i] {
-            return false;
-        }
-        i += 1;
-    }
-    xs.len() == ys.len()
-}
-
 // The table decoded from a set of hosts is the expected one.
-fn is_right(
-    set: u64,
-    from: usize,
-    step: usize,
-    points: &[u32],
-    messages: &[u8],
-    expected: &[u32],
-) -> bool
-    requires { from < 20 × step < 20 × length messages.now ≡ 640 }
-{
+fn is_right(t: Trial<'_>, set: u64, order: Order) -> bool {
     let mut store = [0u32; STORE];
     let mut table = [0u32; ELEMENTS];
-    let heard = hear_set(set, from, step, points, &mut store, messages);
+    let heard = hear_set(t, set, order, &mut store);
     if heard != set {
         return false;
     }
-    let number = decode::decode(job(), points, heard, &store, &mut table);
-    number == 0 && same(&table, expected)
+    let outcome = decode::decode(job(), t.points, heard, &store, &mut table);
+    outcome.is_ok() && table.as_slice() == t.expected
 }
 
 // How many of the sets of 17 hosts give the expected table, in one order.
-fn count_right(from: usize, step: usize, points: &[u32], messages: &[u8], expected: &[u32]) -> u32
-    requires { from < 20 × step < 20 × length messages.now ≡ 640 }
-{
-    let mut right = 0;
-    let mut set = 0;
-    while set < SETS {
-        if u64::count_ones(set) == NEEDED {
-            if is_right(set, from, step, points, messages, expected) {
-                right = wrapping_add_u32(right, 1);
-            }
+fn count_right(t: Trial<'_>, order: Order) -> u32 {
+    let mut right = 0u32;
+    for set in 0..SETS {
+        if set.count_ones() == NEEDED && is_right(t, set, order) {
+            right = right.wrapping_add(1);
         }
-        set += 1;
     }
     right
 }
 
 // How many sets of 17 hosts there are.
 fn count_groups() -> u32 {
-    let mut groups = 0;
-    let mut set = 0;
-    while set < SETS {
-        if u64::count_ones(set) == NEEDED {
-            groups = wrapping_add_u32(groups, 1);
+    let mut groups = 0u32;
+    for set in 0..SETS {
+        if set.count_ones() == NEEDED {
+            groups = groups.wrapping_add(1);
         }
-        set += 1;
     }
     groups
 }
 
 // How many tables are right in three orders: hosts from 1 up, from 20 down, and from 8 on with six left out each time.
-fn count_orders(points: &[u32], messages: &[u8], expected: &[u32]) -> u32
-    requires { length messages.now ≡ 640 }
-{
-    let up = count_right(0, 1, points, messages, expected);
-    let down = count_right(19, 19, points, messages, expected);
-    let mixed = count_right(7, 7, points, messages, expected);
-    wrapping_add_u32(wrapping_add_u32(up, down), mixed)
+fn count_orders(t: Trial<'_>) -> u32 {
+    let up = count_right(t, Order { from: 0, step: 1 });
+    let down = count_right(t, Order { from: 19, step: 19 });
+    let mixed = count_right(t, Order { from: 7, step: 7 });
+    up.wrapping_add(down).wrapping_add(mixed)
 }
 
 // How many tables are right under the masks of a seed.
@@ -333,14 +257,22 @@ fn count_masks(seed: u32, points: &[u32], a: &[u32], b: &[u32], expected: &[u32]
 {
     let mut masks_a = [0u32; MASKS];
     let mut masks_b = [0u32; MASKS];
-    let mut messages = [0u8; MESSAGES];
     fill(seed, &mut masks_a);
     fill(seed + 1, &mut masks_b);
-    let number = answer_all(points, a, b, &masks_a, &masks_b, &mut messages);
-    if number != 0 {
-        return 0;
+    let secrets = Secrets {
+        a,
+        b,
+        masks_a: &masks_a,
+        masks_b: &masks_b,
+    };
+    match answer_all(points, secrets) {
+        Ok(messages) => count_orders(Trial {
+            points,
+            messages: &messages,
+            expected,
+        }),
+        Err(_) => 0,
     }
-    count_orders(points, &messages, expected)
 }
 
 // How many tables are right under three sets of masks.
@@ -348,17 +280,18 @@ fn count_all(points: &[u32], a: &[u32], b: &[u32], expected: &[u32]) -> u32 {
     let first = count_masks(0, points, a, b, expected);
     let second = count_masks(100, points, a, b, expected);
     let third = count_masks(255, points, a, b, expected);
-    wrapping_add_u32(wrapping_add_u32(first, second), third)
+    first.wrapping_add(second).wrapping_add(third)
 }
 
 // Prints some words and a number.
 fn say(words: &[u8], n: u32) {
     let mut out = io::buffer();
     let at = text::put_bytes(&mut out, 0, words);
-    let end = least(text::put_decimal(&mut out, at, n), 4096);
+    let end = text::put_decimal(&mut out, at, n).min(4096);
     io::write_all(STDOUT_FILENO, &out[..end]);
 }
 
+// Multiplies, counts, and prints. Where the product is refused, no table is right.
 fn main() {
     let mut points = [0u32; HOSTS];
     let mut a = [0u32; ELEMENTS];
@@ -367,8 +300,10 @@ fn main() {
     set_points(&mut points);
     fill(11, &mut a);
     fill(200, &mut b);
-    product::product(2, 4, 4, 4, &a, &b, &mut expected);
-    let right = count_all(&points, &a, &b, &expected);
+    let right = match product::product(2, 4, 4, 4, &a, &b, &mut expected) {
+        Ok(()) => count_all(&points, &a, &b, &expected),
+        Err(_) => 0,
+    };
     say(b"groups: ", count_groups());
     say(b"; orders: 3; masks: 3; tables decoded and right: ", right);
     io::write_all(STDOUT_FILENO, b"\n");

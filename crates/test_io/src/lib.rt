@@ -4,6 +4,9 @@
 ghost use Rattle.std.specs.Prelude.{◌≡◌, ◌≤◌, length, take, drop};
 ghost use Rattle.io.specs.Counts.{IsPrefixLen};
 
+use plan::Job;
+use refusal::Refusal;
+
 // The file descriptor of standard input.
 pub const STDIN_FILENO: i32 = 0;
 
@@ -25,6 +28,27 @@ pub fn room<T: Copy, const N: usize>(value: T) -> [T; N]
     ensures { N ≡ length result }
 {
     [value; N]
+}
+
+// The job of a case, after the number of its call.
+pub fn job_of(head: &[u32]) -> Job
+    requires { 14 ≤ length head.now }
+{
+    Job {
+        modulus: head[1],
+        t: head[2],
+        s: head[3],
+        r: head[4],
+        m: head[5],
+        p: head[6],
+        n: head[7],
+        xa: head[8],
+        xb: head[9],
+        hosts: head[10],
+        number: head[11],
+        opening: head[12],
+        closing: head[13],
+    }
 }
 
 // Reads that many bytes to the front of the buffer, or as many as it has room for and the input has; tells how many. Past the
@@ -63,6 +87,14 @@ pub fn put_words(words: &[u32]) {
 // Writes a number as a word.
 pub fn put_number(number: u32) {
     put_words(&[number]);
+}
+
+// Writes what a call without a value returns: 0, or its refusal's number.
+pub fn put_outcome(outcome: Result<(), Refusal>) {
+    match outcome {
+        Ok(()) => put_number(0),
+        Err(refusal) => put_number(refusal.number()),
+    }
 }
 
 // How many elements there are up to the last that is not the filling.
