@@ -12,10 +12,12 @@ use mathlib.Core.Path.{◌≡◌, refl}
 use mathlib.Core.Bool.{true}
 use mathlib.Core.List.{List, [], ◌∷◌}
 use Prim.Native.Nat.{ℕ}
+use Rattle.std.specs.Prelude.{Ok, Err}
+use Rattle.refusal.specs.declared.Refusal.{Refusal}
 use Rattle.refusal.specs.Chain.{first, outcome, unless_refused}
 use Rattle.plan.specs.declared.Job.{Job}
 use Rattle.message_header.specs.Header.{fields}
-use Rattle.arrival.specs.declared.Arrived.TheVariants.{Taken, AlreadyIn, Refused}
+use Rattle.arrival.specs.declared.Arrived.TheVariants.{Taken, AlreadyIn}
 use Rattle.mukerihe_bank.specs.Bank.{job_of, header_of, counted, if_counted, already_after}
 
 abbrev few : List ℕ
@@ -48,6 +50,6 @@ lefts : left few ∷ left (21 ∷ few) ∷ left (20 ∷ 21 ∷ few) ∷ [] ≡ 4
 unfolding first outcome unless_refused counted if_counted
 lefts = refl
 
-alreadies : already_after 7 (Taken 5) ∷ already_after 7 AlreadyIn ∷ already_after 7 (Refused 5) ∷ [] ≡ 0 ∷ 1 ∷ 7 ∷ []
+alreadies : already_after 7 (Ok (Taken 5)) ∷ already_after 7 (Ok AlreadyIn) ∷ already_after 7 (Err Refusal.Division) ∷ [] ≡ 0 ∷ 1 ∷ 7 ∷ []
 unfolding already_after
 alreadies = refl

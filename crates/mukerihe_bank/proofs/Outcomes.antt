@@ -8,7 +8,8 @@
 --   told_value               an outcome that tells one value on paper: its number, and what the call leaves in the value's place
 --   told_values              the same of a list of values
 --   or_was                    the values that an outcome tells, or what was there where it tells none
---   arrived_number           the number of an arrival
+--   told                     what C is told of a call without a value is what its tests tell
+--   share_numbered, ..       each test of a call has a number
 --   set_all                   values written over a list, one after another
 --   set_all_lem                  the list is then the values, where it is as long as they are
 use mathlib.Core.Path.{◌≡◌, refl, sym, ap, ◌∙◌}
@@ -19,13 +20,25 @@ use native.Mathlib.Nat.{suc-ne-zero, suc_inj}
 use lib.ListN.{length, get_or, set}
 use borrow.Author.Tests.{ne_eqb}
 use Rattle.algebra.proofs.Tests.{alike}
-use Rattle.refusal.specs.Chain.{Test, first, outcome, unless_refused, Told, done, refused, differs}
-use Rattle.refusal.proofs.Chains.{first_none, first_hit, first_miss, outcome_map, unless_done, unless_refused_lem, told_number}
+use lib.Dec.{T}
+use Rattle.std.specs.Prelude.{Result}
+use Rattle.refusal.specs.declared.Refusal.{Refusal}
+use Rattle.refusal.specs.Numbers.{refusal_of, sheet}
+use Rattle.refusal.specs.Chain.{Test, first, outcome, answered, number_in, unless_refused, Told, done, refused, differs}
+use Rattle.refusal.proofs.Chains.{numbered, numbered_append, first_none, first_hit, first_miss, outcome_map, unless_done, unless_refused_lem, told_number}
+use Rattle.refusal.proofs.Answered.{number_told}
 use Rattle.plan.specs.declared.Job.{Job}
-use Rattle.message_header.specs.Header.{header_of}
-use Rattle.arrival_heard.specs.Heard.{is_heard}
-use Rattle.arrival.specs.Arriving.{host_index, arrival_tests, entered, arrived, number_of}
-use Rattle.arrival.proofs.Outcomes.{number_by}
+use Rattle.plan.specs.Planning.{plan_tests}
+use Rattle.plan.proofs.Then.{plan_numbered}
+use Rattle.share_side.specs.declared.Matrix.{Matrix}
+use Rattle.share_side.specs.Sides.{matrix_tests}
+use Rattle.share.specs.Sharing.{share_tests}
+use Rattle.product.specs.Product.{product_tests}
+use Rattle.message_header.specs.declared.Header.{Header}
+use Rattle.message_header.specs.Header.{field_tests}
+use Rattle.message.specs.Format.{write_tests}
+use Rattle.decode.specs.Decoding.{table_tests, decode_tests}
+use Rattle.page.specs.Page.{page_tests}
 use Rattle.mukerihe_bank.specs.Bank.{counted, if_counted}
 
 pub unmoved : {A : Type 0} (tests : List Test) (value was : A) → first tests ≡ 1002 → was ≡ unless_refused tests value was
@@ -86,11 +99,30 @@ told_values tests own {t} v vs was same e =
     let is : t ≡ outcome (first tests) (done (v ∷ vs)) refused = e ∙ ap (λ (n : ℕ). outcome n (done (v ∷ vs)) refused) (sym same) in
     (ap (λ (t : Told ℕ). t.number) is ∙ told_number (v ∷ vs) (first tests), ap left is ∙ outcome_map left (done (v ∷ vs)) refused (first tests))
 
-pub arrived_number : (job : Job) (points : List ℕ) (heard : ℕ) (store message : List ℕ) (minute : ℕ)
-    → number_of (arrived job points heard store message minute) ≡ first (arrival_tests job points heard store message minute)
-unfolding arrived entered
-arrived_number job points heard store message minute =
-    number_by heard message (first (arrival_tests job points heard store message minute)) (is_heard heard (host_index (header_of message)))
+-- ---- calls without a value
+
+pub told : {r : Result Unit Refusal} (tests : List Test) → T (numbered tests) → r ≡ answered tests (tt {0}) → number_in r ≡ first tests
+told tests t e = ap number_in e ∙ number_told tests (tt {0}) t
+
+pub share_numbered : (m : Matrix) (job : Job) (points : List ℕ) (host : ℕ) (xs masks : List ℕ) (room : ℕ) → T (numbered (share_tests m job points host xs masks room))
+unfolding share_tests matrix_tests numbered refusal_of sheet
+share_numbered m job points host xs masks room = numbered_append (plan_tests job points) _ (plan_numbered job points) tt
+
+pub product_numbered : (n rows inner columns : ℕ) (a b : List ℕ) (room : ℕ) → T (numbered (product_tests n rows inner columns a b room))
+unfolding product_tests numbered refusal_of sheet
+product_numbered n rows inner columns a b room = tt
+
+pub write_numbered : (h : Header) (xs : List ℕ) (room : ℕ) → T (numbered (write_tests h xs room))
+unfolding write_tests field_tests numbered refusal_of sheet
+write_numbered h xs room = tt
+
+pub decode_numbered : (job : Job) (points : List ℕ) (heard : ℕ) (store : List ℕ) (room : ℕ) → T (numbered (decode_tests job points heard store room))
+unfolding decode_tests table_tests numbered refusal_of sheet
+decode_numbered job points heard store room = numbered_append (plan_tests job points) _ (plan_numbered job points) tt
+
+pub page_numbered : (n t r : ℕ) (table : List ℕ) (room : ℕ) → T (numbered (page_tests n t r table room))
+unfolding page_tests numbered refusal_of sheet
+page_numbered n t r table room = tt
 
 abbrev set_all : List ℕ → List ℕ → ℕ → List ℕ
 set_all [] xs i = xs
