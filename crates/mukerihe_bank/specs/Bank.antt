@@ -1,7 +1,6 @@
--- The bank's calls for C. A job and the fields of a message travel as words, with how many there are: 1002, a number of the
+-- The bank's calls for C. A job (`job_of`, crates/plan/specs/Words.antt) and the fields of a message travel as words, with how many there are: 1002, a number of the
 -- libraries' own, is told before all others where they are not so many.
 --
---   job_of words               == the job of 13 words
 --   header_of words            == the header of 6 words, in the order of the bytes
 --   counted n words tests     == the tests of a call that takes n words: 1002, then the others
 --   if_counted n words made was == `made` where there are n words, and otherwise what it was
@@ -9,27 +8,9 @@
 use Rattle.std.specs.Prelude.{List, [], ◌∷◌, ℕ, length, get_or, Result, Ok, Err}
 use Rattle.refusal.specs.declared.Refusal.{Refusal}
 use Rattle.refusal.specs.Chain.{Test, unless_refused, differs}
-use Rattle.plan.specs.declared.Job.{Job}
 use Rattle.message_header.specs.declared.Header.{Header}
 use Rattle.arrival.specs.declared.Arrived.{Arrived}
 use Rattle.arrival.specs.declared.Arrived.TheVariants.{Taken, AlreadyIn}
-
-unfoldable pub job_of : List ℕ → Job
-job_of words = record {
-  modulus = get_or words 0 0;
-  t = get_or words 1 0;
-  s = get_or words 2 0;
-  r = get_or words 3 0;
-  m = get_or words 4 0;
-  p = get_or words 5 0;
-  n = get_or words 6 0;
-  xa = get_or words 7 0;
-  xb = get_or words 8 0;
-  hosts = get_or words 9 0;
-  number = get_or words 10 0;
-  opening = get_or words 11 0;
-  closing = get_or words 12 0;
-}
 
 unfoldable pub header_of : List ℕ → Header
 header_of words = record {

@@ -7,6 +7,7 @@ ghost use Rattle.refusal.specs.Chain.{first, unless_refused, number_in};
 ghost use Rattle.field.specs.Modulus.{modulus as modulus_modulus};
 ghost use Rattle.field_signed.specs.Signed.{signed, signed_tests, element as signed_element, element_tests};
 ghost use Rattle.plan.specs.Planning.{plan_tests, plan_values};
+ghost use Rattle.plan.specs.Words.{job_of};
 ghost use Rattle.masks.specs.Drawing.{draw_tests, masks_after, used as drawing_used};
 ghost use Rattle.share_side.specs.declared.Matrix.TheVariants.{A as Matrix-as-A, B as Matrix-as-B};
 ghost use Rattle.share.specs.Sharing.{share_tests, share_after};
@@ -16,17 +17,15 @@ ghost use Rattle.message.specs.Format.{write_tests, written, read_tests, read_in
 ghost use Rattle.arrival.specs.Arriving.{arrival_tests, arrived, store_after, heard_after};
 ghost use Rattle.decode.specs.Decoding.{decode_tests, table_after};
 ghost use Rattle.page.specs.Page.{page_tests, page_after, room_for};
-ghost use Rattle.mukerihe_bank.specs.Bank.{job_of, header_of, counted, if_counted, already_after};
+ghost use Rattle.mukerihe_bank.specs.Bank.{header_of, counted, if_counted, already_after};
 
 use arrival::Arrived;
 use message_header::Header;
-use plan::Job;
+use plan::{JOB_WORDS, job_of};
 use refusal::Refusal;
 use share::Matrix;
 
-// How many words a job has, a message's fields, and what planning tells.
-const JOB_WORDS: usize = 13;
-
+// How many words a message's fields have, and what planning tells.
 const FIELD_WORDS: usize = 6;
 
 const PLAN_WORDS: usize = 5;
@@ -38,28 +37,6 @@ fn number_of(outcome: Result<(), Refusal>) -> u32
     match outcome {
         Ok(()) => 0,
         Err(refusal) => refusal.number(),
-    }
-}
-
-// The job of 13 words.
-fn job_of(words: &[u32]) -> Job
-    requires { length words.now ≡ 13 }
-    ensures { result ≡ job_of words.now }
-{
-    Job {
-        modulus: words[0],
-        t: words[1],
-        s: words[2],
-        r: words[3],
-        m: words[4],
-        p: words[5],
-        n: words[6],
-        xa: words[7],
-        xb: words[8],
-        hosts: words[9],
-        number: words[10],
-        opening: words[11],
-        closing: words[12],
     }
 }
 

@@ -1,8 +1,9 @@
 // Planning: a job's numbers and points are tested, and the layout and the number of answers needed are worked out.
 #![tactic(auto)]
 
-ghost use Rattle.std.specs.Prelude.{◌≡◌};
+ghost use Rattle.std.specs.Prelude.{◌≡◌, ◌≤◌, length};
 ghost use Rattle.refusal.specs.Chain.{first, answered};
+ghost use Rattle.plan.specs.Words.{job_of};
 ghost use Rattle.plan.specs.Planning.{
   parameters,
   prime,
@@ -37,6 +38,32 @@ pub struct Job {
     pub number: u32,
     pub opening: u32,
     pub closing: u32,
+}
+
+// How many words a job has.
+pub const JOB_WORDS: usize = 13;
+
+// The job of its words, in the order of its fields.
+#[tactic(auto, unfolding(crate::specs::Words::job_of))]
+pub fn job_of(words: &[u32]) -> Job
+    requires { 13 ≤ length words.now }
+    ensures { result ≡ job_of words.now }
+{
+    Job {
+        modulus: words[0],
+        t: words[1],
+        s: words[2],
+        r: words[3],
+        m: words[4],
+        p: words[5],
+        n: words[6],
+        xa: words[7],
+        xb: words[8],
+        hosts: words[9],
+        number: words[10],
+        opening: words[11],
+        closing: words[12],
+    }
 }
 
 // A job's public numbers without a window.

@@ -6,10 +6,10 @@
 ghost use Rattle.std.specs.Prelude.{◌≡◌, ◌≤◌, length};
 
 use message_header::Header;
-use plan::Plan;
+use plan::{Plan, job_of};
 use refusal::Refusal;
 use share::Matrix;
-use test_io::{STDOUT_FILENO, filled, job_of, put_number, put_outcome, put_words, room};
+use test_io::{STDOUT_FILENO, filled, put_number, put_outcome, put_words, room};
 
 // Where the lists of a case end, one after another.
 #[derive(Clone, Copy)]
@@ -89,7 +89,7 @@ fn run_share(
     masks: &[u32],
     out: &mut [u32],
 ) -> Result<(), Refusal> {
-    share::share(matrix, job_of(&head), points, head[14], xs, masks, out)
+    share::share(matrix, job_of(&head[1..]), points, head[14], xs, masks, out)
 }
 
 // Writes what reading a message returns: 0 and the fields, or the refusal's number.
@@ -156,7 +156,7 @@ fn run_call(
             signed_value(head[2], head[3]),
         )),
         8 => put_drawn(masks::draw_masks(head[1], xs, out)),
-        10 => put_planned(plan::plan_job(job_of(&head), points)),
+        10 => put_planned(plan::plan_job(job_of(&head[1..]), points)),
         _ => return false,
     }
     true

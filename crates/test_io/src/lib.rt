@@ -4,7 +4,6 @@
 ghost use Rattle.std.specs.Prelude.{◌≡◌, ◌≤◌, length, take, drop};
 ghost use Rattle.io.specs.Counts.{IsPrefixLen};
 
-use plan::Job;
 use refusal::Refusal;
 
 // The file descriptor of standard input.
@@ -28,27 +27,6 @@ pub fn room<T: Copy, const N: usize>(value: T) -> [T; N]
     ensures { N ≡ length result }
 {
     [value; N]
-}
-
-// The job of a case, after the number of its call.
-pub fn job_of(head: &[u32]) -> Job
-    requires { 14 ≤ length head.now }
-{
-    Job {
-        modulus: head[1],
-        t: head[2],
-        s: head[3],
-        r: head[4],
-        m: head[5],
-        p: head[6],
-        n: head[7],
-        xa: head[8],
-        xb: head[9],
-        hosts: head[10],
-        number: head[11],
-        opening: head[12],
-        closing: head[13],
-    }
 }
 
 // Reads that many bytes to the front of the buffer, or as many as it has room for and the input has; tells how many. Past the
