@@ -3,7 +3,7 @@
 --   refused       by a test that holds: the output stays
 --   done          where none holds: the output holds the product
 --   multiplicable what the tests 2, 6, 13 and 14 leave: sizes, lengths and elements
-use mathlib.Core.Path.{◌≡◌, sym, ◌∙◌}
+use mathlib.Core.Path.{◌≡◌, refl, sym, ◌∙◌}
 use mathlib.Core.Bool.{false, not, ◌||◌}
 use mathlib.Core.List.{List}
 use Prim.Native.Nat.{ℕ, suc, ◌*◌, ◌≤◌}
@@ -46,21 +46,23 @@ module _ (n rows inner columns : ℕ) (a b out : List ℕ) where
 pub multiplicable : (q rows inner columns : ℕ) (a b : List ℕ) (room : ℕ) → sizes_outside rows inner columns ≡ false → over_block rows inner columns ≡ false
     → (differs (length a) (rows * inner) || differs (length b) (inner * columns) || differs room (rows * columns)) ≡ false
     → (not (all_below q a) || not (all_below q b)) ≡ false
-    → Multiplicable q (record { rows = rows; inner = inner; columns = columns }) a b room
+    → Multiplicable q (record { rows = rows; inner = inner; columns = columns }) a b (rows * columns) × (room ≡ rows * columns)
 unfolding sizes_outside
 multiplicable q rows inner columns a b room size block len below =
     let sizes = within_all 16384 rows inner columns size in
     let blocks = blocks_fit rows inner columns block in
     let each = or_all (differs (length a) (rows * inner)) (differs (length b) (inner * columns)) (differs room (rows * columns)) len in
     let one_row : 1 * inner ≤ rows * inner = mul-le-mul_right inner sizes.0.low in
-    let one_line : 1 * columns ≤ rows * columns = mul-le-mul_right columns sizes.0.low in
-    record {
-      below_a = all_below_test q a (not-false (all_below q a) (or_left _ _ below));
-      below_b = all_below_test q b (not-false (all_below q b) (or_right (not (all_below q a)) _ below));
-      length_a = equal _ _ each.0;
-      length_out = equal _ _ each.2;
-      few = omega (arith, one_row, blocks.0);
-      thin = omega (arith, one_line, blocks.2);
-      block_a = blocks.0;
-      block_c = blocks.2;
-    }
+    let one_line : 1 * columns ≤ rows * columns = mul-le-mul_right columns sizes.0.low in (
+      record {
+        below_a = all_below_test q a (not-false (all_below q a) (or_left _ _ below));
+        below_b = all_below_test q b (not-false (all_below q b) (or_right (not (all_below q a)) _ below));
+        length_a = equal _ _ each.0;
+        length_out = refl;
+        few = omega (arith, one_row, blocks.0);
+        thin = omega (arith, one_line, blocks.2);
+        block_a = blocks.0;
+        block_c = blocks.2;
+      },
+      equal _ _ each.2,
+    )

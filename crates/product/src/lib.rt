@@ -21,6 +21,16 @@ struct Sizes {
     columns: usize,
 }
 
+// Two shares that no test refuses, and the sizes of their product.
+#[derive(Clone, Copy)]
+struct Shares<'a> {
+    modulus: Modulus,
+    sizes: Sizes,
+    a: &'a [u32],
+    b: &'a [u32],
+    ghost fit: { Multiplicable (prime modulus) sizes a.now b.now (sizes.rows * sizes.columns) },
+}
+
 // Up to so many columns, only so many sums are made: to make the most takes longer than a small product.
 const FEW_COLUMNS: usize = 64;
 
@@ -105,19 +115,14 @@ fn few_rows(
     sums_packed::unpack::<true>(modulus, sums, &mut out[columns..]);
 }
 
-// The product of two shares of the right lengths, a few rows at a time. There is a sum for each column.
-fn multiply_rows(
-    modulus: Modulus,
-    s: Sizes,
-    a: &[u32],
-    b: &[u32],
-    sums: &mut [u64],
-    out: &mut [u32],
-)
-    requires { Multiplicable (prime modulus) s a.now b.now (length out.old) × length sums.old ≡ s.columns }
-    ensures { out.new ≡ product_of (prime modulus) s.rows s.inner s.columns a.now b.now }
+// The product of two shares, a few rows at a time. There is a sum for each column.
+fn multiply_rows(x: Shares, sums: &mut [u64], out: &mut [u32])
+    requires { length sums.old ≡ x.sizes.columns × length out.old ≡ x.sizes.rows * x.sizes.columns }
+    ensures { let s = x.entry.sizes in
+        out.new ≡ product_of (prime x.entry.modulus) s.rows s.inner s.columns x.entry.a.now x.entry.b.now }
 {
-    let step = at_once(modulus, s.inner);
+    let s = x.sizes;
+    let step = at_once(x.modulus, s.inner);
     for i in (0..s.rows).step_by(step) {
         let n = step.min(s.rows - i);
         let left = i * s.inner;
@@ -125,41 +130,37 @@ fn multiply_rows(
         let start = i * s.columns;
         let end = start + n * s.columns;
         few_rows(
-            modulus,
+            x.modulus,
             n,
             s.inner,
-            &a[left..left_end],
-            b,
+            &x.a[left..left_end],
+            x.b,
             sums,
             &mut out[start..end],
         );
     }
 }
 
-// The product of two shares of the right lengths, with so many sums, of which each column needs one.
-fn multiply_with<const SUMS: usize>(
-    modulus: Modulus,
-    s: Sizes,
-    a: &[u32],
-    b: &[u32],
-    out: &mut [u32],
-)
-    requires { Multiplicable (prime modulus) s a.now b.now (length out.old) × s.columns ≤ SUMS × SUMS ≤ most_elements }
-    ensures { out.new ≡ product_of (prime modulus) s.rows s.inner s.columns a.now b.now }
+// The product of two shares, with so many sums, of which each column needs one.
+fn multiply_with<const SUMS: usize>(x: Shares, out: &mut [u32])
+    requires { x.sizes.columns ≤ SUMS × SUMS ≤ most_elements × length out.old ≡ x.sizes.rows * x.sizes.columns }
+    ensures { let s = x.entry.sizes in
+        out.new ≡ product_of (prime x.entry.modulus) s.rows s.inner s.columns x.entry.a.now x.entry.b.now }
 {
     let mut sums = [0u64; SUMS];
-    multiply_rows(modulus, s, a, b, &mut sums[..s.columns], out);
+    multiply_rows(x, &mut sums[..x.sizes.columns], out);
 }
 
-// The product of two shares of the right lengths, with few sums or the most.
-fn multiply(modulus: Modulus, s: Sizes, a: &[u32], b: &[u32], out: &mut [u32])
-    requires { Multiplicable (prime modulus) s a.now b.now (length out.old) }
-    ensures { out.new ≡ product_of (prime modulus) s.rows s.inner s.columns a.now b.now }
+// The product of two shares, with few sums or the most.
+fn multiply(x: Shares, out: &mut [u32])
+    requires { length out.old ≡ x.sizes.rows * x.sizes.columns }
+    ensures { let s = x.entry.sizes in
+        out.new ≡ product_of (prime x.entry.modulus) s.rows s.inner s.columns x.entry.a.now x.entry.b.now }
 {
-    if s.columns <= FEW_COLUMNS {
-        multiply_with::<FEW_COLUMNS>(modulus, s, a, b, out);
+    if x.sizes.columns <= FEW_COLUMNS {
+        multiply_with::<FEW_COLUMNS>(x, out);
     } else {
-        multiply_with::<MOST_ELEMENTS>(modulus, s, a, b, out);
+        multiply_with::<MOST_ELEMENTS>(x, out);
     }
 }
 
@@ -197,6 +198,12 @@ pub fn product(
         inner: inner as usize,
         columns: columns as usize,
     };
-    multiply(named, sizes, a, b, out);
+    let shares = Shares {
+        modulus: named,
+        sizes,
+        a,
+        b,
+    };
+    multiply(shares, out);
     Ok(())
 }

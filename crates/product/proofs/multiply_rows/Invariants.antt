@@ -18,5 +18,5 @@ invariant-loop-i l =
     let made = min l.i l.s.rows in
     record {
       wide : length l.sums ≡ l.s.columns;
-      is : l.out ≡ grid (element l.modulus l.s.inner l.s.columns l.a l.b) made l.s.columns ++ drop (made * l.s.columns) l.initial.out;
+      is : l.out ≡ grid (element l.fn.x.modulus l.s.inner l.s.columns l.fn.x.a.now l.fn.x.b.now) made l.s.columns ++ drop (made * l.s.columns) l.initial.out;
     }
