@@ -4,8 +4,9 @@
 --   line_only    what is read is the line of its numbers
 --   lines        so exactly the lines of ten numbers are read: the statement of specs/Line.antt
 use mathlib.Core.Path.{◌≡◌, refl, sym, ap, ◌∙◌, subst}
-use mathlib.Core.Bool.{Bool, true, false, not, ◌||◌, true≢false}
+use mathlib.Core.Bool.{true, false, not, ◌||◌, true≢false}
 use mathlib.Core.Logic.{⊎_elim}
+use Rattle.std.specs.Prelude.{Option, Some, None, is_some, unwrap_or}
 use mathlib.Core.List.{List, [], ◌∷◌, ◌++◌, append-nil, append_assoc}
 use Prim.Native.Nat.{ℕ, zero, suc, ◌+◌, ◌-◌, ◌*◌, ◌/◌, ◌%◌, ◌^◌, ◌<◌, ◌≤◌}
 use native.Mathlib.Numerals.{add-one}
@@ -21,7 +22,7 @@ use Rattle.algebra.proofs.Lists.{below_append}
 use Rattle.lister_line.specs.declared.Progress.{Progress}
 use Rattle.lister_line.specs.declared.Line.{Line}
 use Rattle.text.specs.Decimal.{digit, spell, decimal}
-use Rattle.lister_line.specs.Internal.{separator, nothing, takes_digit, takes_end, with_digit, with_end, refused, step, run}
+use Rattle.lister_line.specs.Internal.{separator, begun, value, nothing, takes_digit, takes_end, with_digit, with_end, refused, step, run}
 use Rattle.lister_line.specs.Line.{written, IsLine, line_of, Lines}
 use Rattle.text.proofs.Decimals.{spell_last, spell_more, tenth, decimal_one, decimal_more}
 use Rattle.lister_line.proofs.Steps.{left_true, right_true, DigitTaken, EndTaken, digit_taken, takes_digit_lem, end_taken, takes_end_lem, step_digit, step_end, step_refused, run_append, line_is}
@@ -52,149 +53,156 @@ written_terms k (n ∷ m ∷ ns) h =
     ∙ ap (λ (b : ℕ). decimal n ++ (b ∷ terms (suc k) (m ∷ ns))) (sym (separator_space k (λ e. omega arith)))
 
 -- Progress with no fault.
-faultless : Bool → ℕ → ℕ → List ℕ → Progress
-faultless begun value count numbers = record { ok = true; begun = begun; value = value; count = count; numbers = numbers }
+faultless : Option ℕ → ℕ → List ℕ → Progress
+faultless present count numbers = record { ok = true; present = present; count = count; numbers = numbers }
 
-digit_step : (begun : Bool) (value count : ℕ) (numbers : List ℕ) (d : ℕ) → count < 10 → d < 10 → value < 10000
-    → (not begun || ltb 0 value) ≡ true → step (faultless begun value count numbers) (digit d) ≡ faultless true (value * 10 + d) count numbers
+digit_step : (present : Option ℕ) (count : ℕ) (numbers : List ℕ) (d : ℕ) → count < 10 → d < 10 → unwrap_or present 0 < 10000
+    → (not (is_some present) || ltb 0 (unwrap_or present 0)) ≡ true
+    → step (faultless present count numbers) (digit d) ≡ faultless (Some (unwrap_or present 0 * 10 + d)) count numbers
 unfolding faultless digit with_digit
-digit_step begun value count numbers d room one small leads =
+digit_step present count numbers d room one small leads =
     let back : 48 + d - 48 ≡ d = omega arith in
-    step_digit (faultless begun value count numbers) (digit d)
-    (takes_digit_lem (faultless begun value count numbers) (digit d)
+    step_digit (faultless present count numbers) (digit d)
+    (takes_digit_lem (faultless present count numbers) (digit d)
     (record { ok = refl; room = room; low = omega arith; high = omega arith; small = small; leads = leads }))
-    ∙ ap (λ (k : ℕ). faultless true (value * 10 + k) count numbers) back
+    ∙ ap (λ (k : ℕ). faultless (Some (unwrap_or present 0 * 10 + k)) count numbers) back
 
 end_step : (value count : ℕ) (numbers : List ℕ) → count < 10
-    → step (faultless true value count numbers) (separator count) ≡ faultless false 0 (suc count) (set numbers count value)
+    → step (faultless (Some value) count numbers) (separator count) ≡ faultless None (suc count) (set numbers count value)
 unfolding faultless with_end
 end_step value count numbers room =
-    step_end (faultless true value count numbers) (separator count)
-    (⊎_elim (λ e. absurd (no_digit (digit_taken (faultless true value count numbers) (separator count) e))) (λ e. e) (by_test (takes_digit (faultless true value count numbers) (separator count))))
-    (takes_end_lem (faultless true value count numbers) (separator count) (record { ok = refl; room = room; begun = refl; is = refl }))
-    ∙ ap (λ (k : ℕ). faultless false 0 k (set numbers count value)) (add-one count)
+    step_end (faultless (Some value) count numbers) (separator count)
+    (⊎_elim (λ e. absurd (no_digit (digit_taken (faultless (Some value) count numbers) (separator count) e))) (λ e. e) (by_test (takes_digit (faultless (Some value) count numbers) (separator count))))
+    (takes_end_lem (faultless (Some value) count numbers) (separator count) (record { ok = refl; room = room; started = refl; is = refl }))
+    ∙ ap (λ (k : ℕ). faultless None k (set numbers count value)) (add-one count)
   where
-    no_digit : DigitTaken (faultless true value count numbers) (separator count) → ⊥
+    no_digit : DigitTaken (faultless (Some value) count numbers) (separator count) → ⊥
     no_digit d = omega (arith, d.low, separator_low count)
 
 module _ (count : ℕ) (numbers : List ℕ) (room : count < 10) where
-  run_one : (n : ℕ) → n < 10 → run (faultless false 0 count numbers) (digit n ∷ []) ≡ faultless true n count numbers
+  run_one : (n : ℕ) → n < 10 → run (faultless None count numbers) (digit n ∷ []) ≡ faultless (Some n) count numbers
   unfolding run
   run_one n h =
       let e : 0 * 10 + n ≡ n = omega arith in
-      digit_step false 0 count numbers n room h (omega arith) refl ∙ ap (λ (k : ℕ). faultless true k count numbers) e
+      digit_step None count numbers n room h (omega arith) refl ∙ ap (λ (k : ℕ). faultless (Some k) count numbers) e
 
   -- the last digit, after a number that is not 0
-  run_last : (n : ℕ) (front : List ℕ) → 10 ≤ n → n < 100000 → run (faultless false 0 count numbers) front ≡ faultless true (n / 10) count numbers
-      → run (faultless false 0 count numbers) (front ++ (digit (n % 10) ∷ [])) ≡ faultless true n count numbers
+  run_last : (n : ℕ) (front : List ℕ) → 10 ≤ n → n < 100000 → run (faultless None count numbers) front ≡ faultless (Some (n / 10)) count numbers
+      → run (faultless None count numbers) (front ++ (digit (n % 10) ∷ [])) ≡ faultless (Some n) count numbers
   unfolding run
   run_last n front b small e =
       let whole : n / 10 * 10 + n % 10 ≡ n = omega arith in
-      run_append (faultless false 0 count numbers) front (digit (n % 10) ∷ [])
+      run_append (faultless None count numbers) front (digit (n % 10) ∷ [])
       ∙ ap (λ (p : Progress). step p (digit (n % 10))) e
-      ∙ digit_step true (n / 10) count numbers (n % 10) room (omega arith) (omega arith) (lt-ltb 0 (n / 10) (omega arith))
-      ∙ ap (λ (k : ℕ). faultless true k count numbers) whole
+      ∙ digit_step (Some (n / 10)) count numbers (n % 10) room (omega arith) (omega arith) (lt-ltb 0 (n / 10) (omega arith))
+      ∙ ap (λ (k : ℕ). faultless (Some k) count numbers) whole
 
-  run_spell : (k n : ℕ) → n < 100000 → n < 10 ^ suc k → run (faultless false 0 count numbers) (spell (suc k) n) ≡ faultless true n count numbers
+  run_spell : (k n : ℕ) → n < 100000 → n < 10 ^ suc k → run (faultless None count numbers) (spell (suc k) n) ≡ faultless (Some n) count numbers
   run_spell zero n small h =
       let one : n < 10 = omega arith in
-      ap (run (faultless false 0 count numbers)) (spell_last zero n one) ∙ run_one n one
+      ap (run (faultless None count numbers)) (spell_last zero n one) ∙ run_one n one
   run_spell (suc k) n small h =
       let ih = run_spell k (n / 10) (omega arith) (tenth (suc k) n h) in
-      ⊎_elim (λ b. ap (run (faultless false 0 count numbers)) (spell_more (suc k) n b) ∙ run_last n (spell (suc k) (n / 10)) b small ih)
-      (λ b. ap (run (faultless false 0 count numbers)) (spell_last (suc k) n b) ∙ run_one n b)
+      ⊎_elim (λ b. ap (run (faultless None count numbers)) (spell_more (suc k) n b) ∙ run_last n (spell (suc k) (n / 10)) b small ih)
+      (λ b. ap (run (faultless None count numbers)) (spell_last (suc k) n b) ∙ run_one n b)
       (le_or_lt 10 n)
 
-  run_decimal : (n : ℕ) → n < 100000 → run (faultless false 0 count numbers) (decimal n) ≡ faultless true n count numbers
+  run_decimal : (n : ℕ) → n < 100000 → run (faultless None count numbers) (decimal n) ≡ faultless (Some n) count numbers
   unfolding decimal
   run_decimal n h = run_spell 9 n h (omega arith)
 
 -- A number, the byte after it, and what follows.
 run_term : (count : ℕ) (numbers : List ℕ) (n : ℕ) (rest : List ℕ) → count < 10 → n < 100000
-    → run (faultless false 0 count numbers) (decimal n ++ (separator count ∷ rest)) ≡ run (faultless false 0 (suc count) (set numbers count n)) rest
+    → run (faultless None count numbers) (decimal n ++ (separator count ∷ rest)) ≡ run (faultless None (suc count) (set numbers count n)) rest
 unfolding run
 run_term count numbers n rest room small =
-    run_append (faultless false 0 count numbers) (decimal n) (separator count ∷ rest)
+    run_append (faultless None count numbers) (decimal n) (separator count ∷ rest)
     ∙ ap (λ (p : Progress). run (step p (separator count)) rest) (run_decimal count numbers room n small)
     ∙ ap (λ (p : Progress). run p rest) (end_step n count numbers room)
 
 run_terms : (ns : List ℕ) (k : ℕ) (numbers : List ℕ) → k + length ns ≡ 10 → length numbers ≡ 10 → AllBelow 100000 ns
-    → run (faultless false 0 k numbers) (terms k ns) ≡ faultless false 0 10 (take k numbers ++ ns)
+    → run (faultless None k numbers) (terms k ns) ≡ faultless None 10 (take k numbers ++ ns)
 unfolding run terms
 run_terms [] k numbers h whole below =
     let e : k ≡ 10 = omega arith in
-    ap (λ (j : ℕ). faultless false 0 j numbers) e
-    ∙ ap (λ (xs : List ℕ). faultless false 0 10 xs) (sym (append-nil (take k numbers) ∙ take_all k numbers (omega arith)))
+    ap (λ (j : ℕ). faultless None j numbers) e
+    ∙ ap (λ (xs : List ℕ). faultless None 10 xs) (sym (append-nil (take k numbers) ∙ take_all k numbers (omega arith)))
 run_terms (n ∷ ns) k numbers h whole below =
     run_term k numbers n (terms (suc k) ns) (omega arith) (below 0 (omega arith))
     ∙ run_terms ns (suc k) (set numbers k n) (omega arith) (length-set numbers k n ∙ whole) (λ i l. below (suc i) (omega arith))
-    ∙ ap (λ (xs : List ℕ). faultless false 0 10 (xs ++ ns)) (take-suc-set numbers k n (omega arith))
-    ∙ ap (λ (xs : List ℕ). faultless false 0 10 xs) (append_snoc (take k numbers) n ns)
+    ∙ ap (λ (xs : List ℕ). faultless None 10 (xs ++ ns)) (take-suc-set numbers k n (omega arith))
+    ∙ ap (λ (xs : List ℕ). faultless None 10 xs) (append_snoc (take k numbers) n ns)
 
 pub line_back : {input ns : List ℕ} → IsLine input ns → line_of input ≡ record { ok = true; numbers = ns }
 unfolding faultless nothing
 line_back {input} {ns} l =
     let here : 0 + length ns ≡ 10 = omega (arith, l.ten) in
-    let read : run nothing input ≡ faultless false 0 10 ns =
+    let read : run nothing input ≡ faultless None 10 ns =
     ap (run nothing) (l.is ∙ written_terms 0 ns here) ∙ run_terms ns 0 (replicate 10 0) here refl l.short in
-    sym (line_is input (faultless false 0 10 ns) true (sym read) refl)
+    sym (line_is input (faultless None 10 ns) true (sym read) refl)
 
 -- What the bytes so far are, where they have no fault.
-present : Bool → ℕ → List ℕ
-present true value = decimal value
-present false value = []
+shown : Option ℕ → List ℕ
+shown None = []
+shown (Some v) = decimal v
+
+shown_begun : (present : Option ℕ) → is_some present ≡ true → shown present ≡ decimal (unwrap_or present 0)
+unfolding shown
+shown_begun None e = absurd (true≢false (sym e))
+shown_begun (Some v) e = refl
+
+shown_none : (present : Option ℕ) → is_some present ≡ false → shown present ≡ []
+unfolding shown
+shown_none None e = refl
+shown_none (Some v) e = absurd (true≢false e)
 
 record Holds (done : List ℕ) (p : Progress) : Type 0 where
   whole : length p.numbers ≡ 10
   few : p.count ≤ 10
-  live : p.begun ≡ true → p.count < 10
-  idle : p.begun ≡ false → p.value ≡ 0
-  small : p.value < 100000
+  live : begun p ≡ true → p.count < 10
+  small : value p < 100000
   below : AllBelow 100000 (take p.count p.numbers)
-  is : done ≡ terms 0 (take p.count p.numbers) ++ present p.begun p.value
+  is : done ≡ terms 0 (take p.count p.numbers) ++ shown p.present
 
 abbrev Fit : List ℕ → Progress → Type 0
 Fit done p = p.ok ≡ true → Holds done p
 
 holds_start : Holds [] nothing
-unfolding nothing terms present
+unfolding nothing terms shown
 holds_start = record {
   whole = refl;
   few = omega arith;
   live = λ e. absurd (true≢false (sym e));
-  idle = λ e. refl;
   small = omega arith;
   below = λ i h. omega arith;
   is = refl;
 }
 
 -- a further digit
-present_more : (begun : Bool) (value b : ℕ) → (begun ≡ false → value ≡ 0) → (not begun || ltb 0 value) ≡ true → value < 10000
-    → 48 ≤ b → b ≤ 57 → present begun value ++ (b ∷ []) ≡ decimal (value * 10 + (b - 48))
-unfolding present digit
-present_more true value b idle leads small low high =
+shown_more : (present : Option ℕ) (b : ℕ) → (not (is_some present) || ltb 0 (unwrap_or present 0)) ≡ true → unwrap_or present 0 < 10000
+    → 48 ≤ b → b ≤ 57 → shown present ++ (b ∷ []) ≡ decimal (unwrap_or present 0 * 10 + (b - 48))
+unfolding shown digit
+shown_more (Some v) b leads small low high =
     let back : 48 + (b - 48) ≡ b = omega arith in
-    sym (decimal_more value (b - 48) (ltb-true 0 value leads) (omega arith) (omega arith) ∙ ap (λ (k : ℕ). decimal value ++ (k ∷ [])) back)
-present_more false value b idle leads small low high =
-    let none : value ≡ 0 = idle refl in
-    let only : value * 10 + (b - 48) ≡ b - 48 = omega arith in
+    sym (decimal_more v (b - 48) (ltb-true 0 v leads) (omega arith) (omega arith) ∙ ap (λ (k : ℕ). decimal v ++ (k ∷ [])) back)
+shown_more None b leads small low high =
+    let only : 0 * 10 + (b - 48) ≡ b - 48 = omega arith in
     let back : 48 + (b - 48) ≡ b = omega arith in
     sym (ap decimal only ∙ decimal_one (b - 48) (omega arith) ∙ ap (λ (k : ℕ). k ∷ []) back)
 
 holds_digit : (done : List ℕ) (p : Progress) (b : ℕ) → Holds done p → DigitTaken p b → Holds (done ++ (b ∷ [])) (with_digit p b)
-unfolding with_digit present
+unfolding with_digit shown
 holds_digit done p b h d = record {
   whole = h.whole;
   few = h.few;
   live = λ e. d.room;
-  idle = λ e. absurd (true≢false e);
   small = omega (arith, d.small, d.high);
   below = h.below;
   is =
       ap (λ (xs : List ℕ). xs ++ (b ∷ [])) h.is
-      ∙ append_assoc (terms 0 (take p.count p.numbers)) (present p.begun p.value) (b ∷ [])
+      ∙ append_assoc (terms 0 (take p.count p.numbers)) (shown p.present) (b ∷ [])
       ∙ ap (λ (xs : List ℕ). terms 0 (take p.count p.numbers) ++ xs)
-      (present_more p.begun p.value b h.idle d.leads d.small d.low d.high);
+      (shown_more p.present b d.leads d.small d.low d.high);
 }
 
 terms_snoc : (k : ℕ) (xs : List ℕ) (x : ℕ) → terms k (xs ++ (x ∷ [])) ≡ terms k xs ++ (decimal x ++ (separator (k + length xs) ∷ []))
@@ -208,39 +216,38 @@ terms_snoc k (y ∷ xs) x =
 
 -- a number's end
 module _ (p : Progress) (room : p.count < 10) (whole : length p.numbers ≡ 10) where
-  taken : take (p.count + 1) (set p.numbers p.count p.value) ≡ take p.count p.numbers ++ (p.value ∷ [])
+  taken : take (p.count + 1) (set p.numbers p.count (value p)) ≡ take p.count p.numbers ++ (value p ∷ [])
   taken =
-      ap (λ (k : ℕ). take k (set p.numbers p.count p.value)) (add-one p.count)
-      ∙ take-suc-set p.numbers p.count p.value (omega arith)
+      ap (λ (k : ℕ). take k (set p.numbers p.count (value p))) (add-one p.count)
+      ∙ take-suc-set p.numbers p.count (value p) (omega arith)
 
-  ended : terms 0 (take p.count p.numbers) ++ (decimal p.value ++ (separator p.count ∷ []))
-      ≡ terms 0 (take (p.count + 1) (set p.numbers p.count p.value))
+  ended : terms 0 (take p.count p.numbers) ++ (decimal (value p) ++ (separator p.count ∷ []))
+      ≡ terms 0 (take (p.count + 1) (set p.numbers p.count (value p)))
   ended =
       let e : p.count ≡ 0 + length (take p.count p.numbers) = omega (arith, length-take-le p.count p.numbers (omega arith)) in
-      ap (λ (k : ℕ). terms 0 (take p.count p.numbers) ++ (decimal p.value ++ (separator k ∷ []))) e
-      ∙ sym (ap (terms 0) taken ∙ terms_snoc 0 (take p.count p.numbers) p.value)
+      ap (λ (k : ℕ). terms 0 (take p.count p.numbers) ++ (decimal (value p) ++ (separator k ∷ []))) e
+      ∙ sym (ap (terms 0) taken ∙ terms_snoc 0 (take p.count p.numbers) (value p))
 
 holds_end : (done : List ℕ) (p : Progress) (b : ℕ) → Holds done p → EndTaken p b → Holds (done ++ (b ∷ [])) (with_end p)
-unfolding with_end present
+unfolding with_end shown
 holds_end done p b h d = record {
-  whole = length-set p.numbers p.count p.value ∙ h.whole;
+  whole = length-set p.numbers p.count (value p) ∙ h.whole;
   few = omega (arith, d.room);
   live = λ e. absurd (true≢false (sym e));
-  idle = λ e. refl;
   small = omega arith;
   below =
       subst (AllBelow 100000) (sym (taken p d.room h.whole))
-      (below_append 100000 (take p.count p.numbers) (p.value ∷ []) h.below one);
+      (below_append 100000 (take p.count p.numbers) (value p ∷ []) h.below one);
   is =
       ap (λ (xs : List ℕ). xs ++ (b ∷ [])) h.is
-      ∙ ap (λ (t : Bool). terms 0 (take p.count p.numbers) ++ present t p.value ++ (b ∷ [])) d.begun
-      ∙ ap (λ (k : ℕ). terms 0 (take p.count p.numbers) ++ decimal p.value ++ (k ∷ [])) d.is
-      ∙ append_assoc (terms 0 (take p.count p.numbers)) (decimal p.value) (separator p.count ∷ [])
+      ∙ ap (λ (xs : List ℕ). terms 0 (take p.count p.numbers) ++ xs ++ (b ∷ [])) (shown_begun p.present d.started)
+      ∙ ap (λ (k : ℕ). terms 0 (take p.count p.numbers) ++ decimal (value p) ++ (k ∷ [])) d.is
+      ∙ append_assoc (terms 0 (take p.count p.numbers)) (decimal (value p)) (separator p.count ∷ [])
       ∙ ended p d.room h.whole
-      ∙ sym (append-nil (terms 0 (take (p.count + 1) (set p.numbers p.count p.value))));
+      ∙ sym (append-nil (terms 0 (take (p.count + 1) (set p.numbers p.count (value p)))));
 }
   where
-    one : AllBelow 100000 (p.value ∷ [])
+    one : AllBelow 100000 (value p ∷ [])
     one zero l = h.small
     one (suc i) l = let no : ⊥ = omega arith in absurd no
 
@@ -266,17 +273,16 @@ fit_run (b ∷ todo) done p h =
 
 -- the end of a line
 holds_line : (input : List ℕ) (p : Progress) → Holds input p → p.count ≡ 10 → IsLine input p.numbers
-unfolding present
 holds_line input p h e =
     let all : take p.count p.numbers ≡ p.numbers = take_all p.count p.numbers (omega (arith, h.whole)) in
     let here : 0 + length p.numbers ≡ 10 = omega (arith, h.whole) in
-    let stopped : p.begun ≡ false = ⊎_elim (λ t. absurd (late (h.live t))) (λ f. f) (by_test p.begun) in
+    let stopped : begun p ≡ false = ⊎_elim (λ t. absurd (late (h.live t))) (λ f. f) (by_test (begun p)) in
     record {
       ten = h.whole;
       short = subst (AllBelow 100000) all h.below;
       is =
           h.is
-          ∙ ap (λ (t : Bool). terms 0 (take p.count p.numbers) ++ present t p.value) stopped
+          ∙ ap (λ (xs : List ℕ). terms 0 (take p.count p.numbers) ++ xs) (shown_none p.present stopped)
           ∙ append-nil (terms 0 (take p.count p.numbers))
           ∙ ap (terms 0) all
           ∙ sym (written_terms 0 p.numbers here);

@@ -19,7 +19,7 @@ use lib.Seq.{take-suc}
 use borrow.Author.Tests.{ltb-true, leb-true, eqb-true, lt-ltb, le-leb, eq-eqb}
 use Rattle.lister_line.specs.declared.Progress.{Progress}
 use Rattle.lister_line.specs.declared.Line.{Line}
-use Rattle.lister_line.specs.Internal.{separator, is_digit, goes_on, grows, takes_digit, takes_end, with_digit, with_end, refused, nothing, step, run}
+use Rattle.lister_line.specs.Internal.{separator, begun, value, is_digit, goes_on, grows, takes_digit, takes_end, with_digit, with_end, refused, nothing, step, run}
 use Rattle.lister_line.specs.Line.{line_of}
 
 pub both : {a b : Bool} → a ≡ true → b ≡ true → (a && b) ≡ true
@@ -38,13 +38,13 @@ pub record DigitTaken (p : Progress) (b : ℕ) : Type 0 where
   pub room : p.count < 10
   pub low : 48 ≤ b
   pub high : b ≤ 57
-  pub small : p.value < 10000
-  pub leads : (not p.begun || ltb 0 p.value) ≡ true
+  pub small : value p < 10000
+  pub leads : (not (begun p) || ltb 0 (value p)) ≡ true
 
 pub record EndTaken (p : Progress) (b : ℕ) : Type 0 where
   pub ok : p.ok ≡ true
   pub room : p.count < 10
-  pub begun : p.begun ≡ true
+  pub started : begun p ≡ true
   pub is : b ≡ separator p.count
 
 module _ (p : Progress) (b : ℕ) where
@@ -60,32 +60,32 @@ module _ (p : Progress) (b : ℕ) where
         room = ltb-true p.count 10 (right_true p.ok (ltb p.count 10) on);
         low = leb-true 48 b (left_true (leb 48 b) (leb b 57) is);
         high = leb-true b 57 (right_true (leb 48 b) (leb b 57) is);
-        small = ltb-true p.value 10000 (left_true (ltb p.value 10000) (not p.begun || ltb 0 p.value) more);
-        leads = right_true (ltb p.value 10000) (not p.begun || ltb 0 p.value) more;
+        small = ltb-true (value p) 10000 (left_true (ltb (value p) 10000) (not (begun p) || ltb 0 (value p)) more);
+        leads = right_true (ltb (value p) 10000) (not (begun p) || ltb 0 (value p)) more;
       }
 
   pub takes_digit_lem : DigitTaken p b → takes_digit p b ≡ true
   unfolding takes_digit goes_on is_digit grows
   takes_digit_lem d =
       both (both (both d.ok (lt-ltb p.count 10 d.room)) (both (le-leb 48 b d.low) (le-leb b 57 d.high)))
-      (both (lt-ltb p.value 10000 d.small) d.leads)
+      (both (lt-ltb (value p) 10000 d.small) d.leads)
 
   pub end_taken : takes_end p b ≡ true → EndTaken p b
   unfolding takes_end goes_on
   end_taken e =
-      let first = left_true (goes_on p && p.begun) (eqb b (separator p.count)) e in
-      let on = left_true (goes_on p) p.begun first in
+      let first = left_true (goes_on p && (begun p)) (eqb b (separator p.count)) e in
+      let on = left_true (goes_on p) (begun p) first in
       record {
         ok = left_true p.ok (ltb p.count 10) on;
         room = ltb-true p.count 10 (right_true p.ok (ltb p.count 10) on);
-        begun = right_true (goes_on p) p.begun first;
-        is = eqb-true b (separator p.count) (right_true (goes_on p && p.begun) (eqb b (separator p.count)) e);
+        started = right_true (goes_on p) (begun p) first;
+        is = eqb-true b (separator p.count) (right_true (goes_on p && (begun p)) (eqb b (separator p.count)) e);
       }
 
   pub takes_end_lem : EndTaken p b → takes_end p b ≡ true
   unfolding takes_end goes_on
   takes_end_lem d =
-      both (both (both d.ok (lt-ltb p.count 10 d.room)) d.begun) (eq-eqb b (separator p.count) d.is)
+      both (both (both d.ok (lt-ltb p.count 10 d.room)) d.started) (eq-eqb b (separator p.count) d.is)
 
   pub step_digit : takes_digit p b ≡ true → step p b ≡ with_digit p b
   unfolding step
