@@ -58,6 +58,6 @@ returns c =
     let t = two (goal.at.returns c).Else-count-large in
     let a = c.args in
     two_rows a.modulus a.inner a.part.now a.b.now t.0 t.1 t.3 c.requires.1 c.requires.2 (replicate 127 0) c.pack.new.out a.sums.now c.clear.new.sums
-    c.add_rows.new.sums c.unpack.new.out c.unpack-2.new.out a.out.now t.1 c.weights-2-1.given c.pack.ensures
+    c.add_rows.new.sums c.unpack.new.out c.unpack-2.new.out a.out.now t.1 (omega arith) c.pack.ensures
     c.clear.ensures c.add_rows.ensures t.4 c.unpack.ensures c.unpack-2.ensures
     ∙ ap (λ (k : ℕ). product_of (prime a.modulus) k a.inner (length a.sums.now) a.part.now a.b.now) t.2
