@@ -11,7 +11,9 @@ use Prim.Native.Nat.{ℕ, suc, ◌≤◌}
 use native.Mathlib.Omega.{arith}
 use lib.ListN.{length, drop}
 use Rattle.algebra.specs.Lists.{tab}
-use Rattle.plan.specs.declared.Planned.{Planned}
+use Rattle.std.proofs.Common.{Result}
+use Rattle.refusal.specs.declared.Refusal.{Refusal}
+use Rattle.plan.specs.declared.Plan.{Plan}
 use Rattle.plan.specs.Planning.{planned, table_for, table_job, unwindowed}
 use Rattle.plan.proofs.Windows.{window_unseen, table_untold}
 use Rattle.lister_line.specs.declared.Line.{Line}
@@ -32,7 +34,7 @@ pub malformed : (input : List ℕ) → (line_of input).ok ≡ false → refused_
 unfolding listing
 malformed input e = sym (ap (λ (b : Bool). cond b (reply (line_table (line_of input).numbers)) (refused_text 26)) e)
 
-pub replied : (input : List ℕ) {outcome : Planned} → (line_of input).ok ≡ true
+pub replied : (input : List ℕ) {outcome : Result Plan Refusal} → (line_of input).ok ≡ true
     → outcome ≡ planned (table_job (line_table (line_of input).numbers)) (tab suc (line_table (line_of input).numbers).hosts)
     → reply_text (line_table (line_of input).numbers).hosts outcome ≡ listing input
 unfolding listing reply

@@ -12,7 +12,9 @@ use native.Mathlib.Nat.{mul-le-mul}
 use native.Mathlib.Omega.{arith}
 use lib.ListN.{length, length-append}
 use Rattle.algebra.specs.Lists.{tab, grid}
-use Rattle.refusal.specs.Chain.{first, outcome}
+use Rattle.std.proofs.Common.{Ok}
+use Rattle.refusal.specs.Chain.{first, outcome, answered, refuse}
+use Rattle.refusal.specs.Numbers.{number as refusal_number, refusal_of}
 use Rattle.field.specs.Modulus.{prime}
 use Rattle.layout.specs.declared.Parameters.{Parameters}
 use Rattle.layout.specs.declared.Series.TheVariants.{BlocksA, MasksA, BlocksB, MasksB, Places}
@@ -21,7 +23,6 @@ use Rattle.layout.specs.Sound.{Cut, Sound}
 use Rattle.layout.proofs.Soundness.{sound}
 use Rattle.plan.specs.declared.Job.{Job}
 use Rattle.plan.specs.declared.Table.{Table}
-use Rattle.plan.specs.declared.Planned.TheVariants.{Accepted, Refused}
 use Rattle.plan.specs.Planning.{parameters, modulus_of, layout_of, needed_of, plan_tests, plan_of, planned, table_job}
 use Rattle.plan.proofs.Facts.{Fits, facts}
 use Rattle.text.specs.Ascii.{ascii}
@@ -180,15 +181,15 @@ module _ (job : Job) (fits : Fits job) where
       omega (arith, length-append n (a ++ (b ++ c)), length-append a (b ++ c), length-append b c, number_room, a_room, b_room, c_room)
 
 reply_room : (table : Table) → length (reply table) ≤ listing_room
-unfolding reply reply_text planned table_job outcome
+unfolding reply reply_text planned answered table_job outcome
 reply_room table = go (first (plan_tests job (tab suc job.hosts))) refl
   where
     job : Job
     job = table_job table
 
-    go : (n : ℕ) → first (plan_tests job (tab suc job.hosts)) ≡ n → length (reply_text job.hosts (outcome n (Accepted (plan_of job)) Refused)) ≤ listing_room
+    go : (n : ℕ) → first (plan_tests job (tab suc job.hosts)) ≡ n → length (reply_text job.hosts (outcome n (Ok (plan_of job)) refuse)) ≤ listing_room
     go zero e = plan_room job (facts job (tab suc job.hosts) e).fits
-    go (suc n) e = refused_room (suc n)
+    go (suc n) e = refused_room (refusal_number (refusal_of (suc n)))
 
 pub room : (input : List ℕ) → length (listing input) ≤ listing_room
 unfolding listing

@@ -12,16 +12,16 @@
 --   reply table                 == what is printed for a table, with the points 1..N
 --   listing input               == what is printed for an input: 26 comes before all others
 --   listing_room                 == the bytes in which every listing has room
-use Rattle.std.specs.Prelude.{cond, List, [], ◌∷◌, ◌++◌, ℕ, suc, get_or}
+use Rattle.std.specs.Prelude.{cond, List, [], ◌∷◌, ◌++◌, ℕ, suc, get_or, Result, Ok, Err}
 use Rattle.algebra.specs.Lists.{tab, grid}
+use Rattle.refusal.specs.declared.Refusal.{Refusal}
+use Rattle.refusal.specs.Numbers.{number as refusal_number}
 use Rattle.field.specs.Modulus.{prime}
 use Rattle.layout.specs.declared.Parameters.{Parameters}
 use Rattle.layout.specs.declared.Layout.{Layout}
 use Rattle.layout.specs.Exponents.{exponents, number, term}
 use Rattle.plan.specs.declared.Table.{Table}
 use Rattle.plan.specs.declared.Plan.{Plan}
-use Rattle.plan.specs.declared.Planned.{Planned}
-use Rattle.plan.specs.declared.Planned.TheVariants.{Accepted, Refused}
 use Rattle.plan.specs.Planning.{planned, table_job}
 use Rattle.text.specs.Ascii.{ascii}
 use Rattle.text.specs.Decimal.{decimal}
@@ -91,9 +91,9 @@ line_table ns = record {
   number = 0;
 }
 
-unfoldable pub reply_text : ℕ → Planned → List ℕ
-reply_text hosts (Accepted plan) = plan_text hosts plan
-reply_text hosts (Refused n) = refused_text n
+unfoldable pub reply_text : ℕ → Result Plan Refusal → List ℕ
+reply_text hosts (Ok plan) = plan_text hosts plan
+reply_text hosts (Err r) = refused_text (refusal_number r)
 
 -- "the lister knows no window" (02, U7)
 unfoldable pub reply : Table → List ℕ

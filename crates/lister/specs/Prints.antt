@@ -4,11 +4,11 @@
 --             has room
 --   Unseen == what is planned and printed for a table is what planning answers in every window that opens before it closes, and
 --             29 is never told
-use Rattle.std.specs.Prelude.{◌≡◌, false, List, ℕ, suc, ◌≤◌, length}
+use Rattle.std.specs.Prelude.{◌≡◌, false, List, ℕ, suc, ◌≤◌, length, Err}
 use Rattle.algebra.specs.Lists.{tab}
 use Rattle.plan.specs.declared.Job.{Job}
 use Rattle.plan.specs.declared.Table.{Table}
-use Rattle.plan.specs.declared.Planned.TheVariants.{Refused}
+use Rattle.refusal.specs.declared.Refusal.{Refusal}
 use Rattle.plan.specs.Planning.{window_test, planned, table_for, table_job, unwindowed}
 use Rattle.lister_line.specs.Line.{IsLine}
 use Rattle.lister.specs.Listing.{refused_text, line_table, reply_text, reply, listing, listing_room}
@@ -24,4 +24,4 @@ pub record Unseen : Type 0 where
   pub planning : (job : Job) (points : List ℕ) → window_test job ≡ false → planned job points ≡ planned (unwindowed job) points
   pub printing : (job : Job) → window_test job ≡ false
       → reply (table_for job) ≡ reply_text job.hosts (planned job (tab suc job.hosts))
-  pub untold : (table : Table) (points : List ℕ) → planned (table_job table) points ≡ Refused 29 → ⊥
+  pub untold : (table : Table) (points : List ℕ) → planned (table_job table) points ≡ Err Refusal.Window → ⊥

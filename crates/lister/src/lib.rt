@@ -1,11 +1,13 @@
 // The plan lister: reads a job's ten numbers as a line of text, and gives the text of its plan.
 // A function put_.. writes from an offset of the buffer on and returns the offset behind.
+// Stays: the offset goes beside the buffer, as `Writes` in the clauses of all of them names both.
 #![tactic(auto)]
 
 ghost use Rattle.std.specs.Prelude.{◌≡◌, ◌∷◌, [], ◌++◌, suc, ◌≤◌, length, drop};
 ghost use Rattle.algebra.specs.Lists.{tab, grid};
 ghost use Rattle.layout.specs.Internal.{exponent_by};
 ghost use Rattle.plan.specs.Planning.{planned, table_job};
+ghost use Rattle.refusal.specs.Numbers.{number};
 ghost use Rattle.text.specs.Internal.{Writes};
 ghost use Rattle.lister.specs.Listing.{
   value,
@@ -20,7 +22,8 @@ ghost use Rattle.lister.specs.Listing.{
 ghost use Rattle.lister.specs.Internal.{Lists, side_text, places_text};
 
 use layout::{Series, Strides};
-use plan::{Plan, Planned, Table};
+use plan::{Plan, Table};
+use refusal::Refusal;
 
 // The bytes in which every listing has room.
 pub const LISTING_ROOM: usize = 4096;
@@ -61,10 +64,8 @@ fn put_row(out: &mut [u8], at: usize, series: Series, s: Strides, i: u8, columns
     ensures { Writes out.old at (values (tab (exponent_by s series i) columns)) out.new result }
 {
     let mut next = at;
-    let mut j = 0;
-    while j < columns {
+    for j in 0..columns {
         next = put_value(out, next, layout::exponent_of(series, s, i, j));
-        j += 1;
     }
     next
 }
@@ -74,10 +75,8 @@ fn put_grid(out: &mut [u8], at: usize, series: Series, s: Strides, rows: u8, col
     ensures { Writes out.old at (values (grid (exponent_by s series) rows columns)) out.new result }
 {
     let mut next = at;
-    let mut i = 0;
-    while i < rows {
+    for i in 0..rows {
         next = put_row(out, next, series, s, i, columns);
-        i += 1;
     }
     next
 }
@@ -86,13 +85,10 @@ fn put_grid(out: &mut [u8], at: usize, series: Series, s: Strides, rows: u8, col
 fn put_side(out: &mut [u8], at: usize, line: SideLine, s: Strides) -> usize
     ensures { Writes out.old at (side_text line s) out.new result }
 {
-    let label = [line.label];
-    let blocks = line.blocks;
-    let masks = line.masks;
-    let a = text::put_bytes(out, at, &label);
-    let b = put_grid(out, a, blocks, s, line.grid_rows, line.grid_columns);
+    let a = text::put_bytes(out, at, &[line.label]);
+    let b = put_grid(out, a, line.blocks, s, line.grid_rows, line.grid_columns);
     let c = text::put_bytes(out, b, b" |");
-    let d = put_row(out, c, masks, s, 0, line.mask_count);
+    let d = put_row(out, c, line.masks, s, 0, line.mask_count);
     text::put_bytes(out, d, b"\n")
 }
 
@@ -109,10 +105,8 @@ fn put_places(out: &mut [u8], at: usize, s: Strides, rows: u8, columns: u8) -> u
 fn put_numbers(out: &mut [u8], hosts: u32, plan: Plan) -> usize
     ensures { Writes out.old 0 (number_lines hosts plan) out.new result }
 {
-    let modulus = plan.modulus;
-    let layout = plan.layout;
-    let a = put_line(out, 0, b"MODULUS", field::prime_of(modulus));
-    let b = put_line(out, a, b"LAYOUT", layout::number_of(layout));
+    let a = put_line(out, 0, b"MODULUS", field::prime_of(plan.modulus));
+    let b = put_line(out, a, b"LAYOUT", u32::from(plan.layout));
     let c = put_line(out, b, b"HOSTS", hosts);
     put_line(out, c, b"NEEDED", plan.needed)
 }
@@ -122,9 +116,9 @@ fn put_numbers(out: &mut [u8], hosts: u32, plan: Plan) -> usize
 pub fn list_plan(hosts: u32, plan: Plan, out: &mut [u8; LISTING_ROOM]) -> usize
     ensures { Lists out.old (plan_text hosts plan) out.new result }
 {
-    let layout = plan.layout;
     let g = plan.parameters;
-    let strides = layout::strides_of(layout, g);
+    let strides = layout::strides_of(plan.layout, g);
+    // Stays: the two sides' lines differ in every field, so no function of one side would be plainer.
     let line_a = SideLine {
         label: b'A',
         blocks: Series::BlocksA,
@@ -148,27 +142,29 @@ pub fn list_plan(hosts: u32, plan: Plan, out: &mut [u8; LISTING_ROOM]) -> usize
 }
 
 // Writes the line of a refusal to the front of the buffer, and returns its length.
-fn put_refused(out: &mut [u8; LISTING_ROOM], n: u32) -> usize
-    ensures { Lists out.old (refused_text n) out.new result }
+fn put_refused(out: &mut [u8; LISTING_ROOM], refusal: Refusal) -> usize
+    ensures { Lists out.old (refused_text (number refusal)) out.new result }
 {
-    put_line(out, 0, b"REFUSED", n)
+    put_line(out, 0, b"REFUSED", refusal.number())
 }
 
 // The table of the ten numbers of a line.
+#[tactic(auto, unfolding(crate::specs::Listing::line_table))]
 fn line_table(numbers: [u32; 10]) -> Table
     ensures { result ≡ line_table numbers }
 {
+    let [modulus, t, s, r, m, p, n, xa, xb, hosts] = numbers;
     Table {
-        modulus: numbers[0],
-        t: numbers[1],
-        s: numbers[2],
-        r: numbers[3],
-        m: numbers[4],
-        p: numbers[5],
-        n: numbers[6],
-        xa: numbers[7],
-        xb: numbers[8],
-        hosts: numbers[9],
+        modulus,
+        t,
+        s,
+        r,
+        m,
+        p,
+        n,
+        xa,
+        xb,
+        hosts,
         number: 0,
     }
 }
@@ -178,25 +174,19 @@ fn all_points() -> [u32; MOST_POINTS]
     ensures { result ≡ tab suc 64 }
 {
     let mut points = [0u32; MOST_POINTS];
-    let mut i: u32 = 0;
-    while i < refusal::MOST_HOSTS {
-        points[i as usize] = i + 1;
-        i += 1;
+    for (i, point) in points.iter_mut().enumerate() {
+        *point = i as u32 + 1;
     }
     points
 }
 
 // Plans a table's job with the points 1 to N. No job has more than 64 hosts, so 64 points are enough.
-fn plan_of(table: Table) -> Planned
+fn plan_of(table: Table) -> Result<Plan, Refusal>
     ensures { result ≡ planned (table_job table) (tab suc table.hosts) }
 {
-    let job = plan::table_job(table);
     let points = all_points();
-    if table.hosts < refusal::MOST_HOSTS {
-        let hosts = table.hosts as usize;
-        return plan::plan_job(job, &points[..hosts]);
-    }
-    plan::plan_job(job, &points)
+    let hosts = table.hosts.min(refusal::MOST_HOSTS) as usize;
+    plan::plan_job(plan::table_job(table), &points[..hosts])
 }
 
 // What the lister prints for an input: the text goes to the front of the buffer, which always has room for it, and its length is
@@ -208,12 +198,11 @@ pub fn list(input: &[u8], out: &mut [u8; LISTING_ROOM]) -> usize
 {
     let line = lister_line::read_line(input);
     if !line.ok {
-        return put_refused(out, refusal::TEXT);
+        return put_refused(out, Refusal::Text);
     }
-    let numbers = line.numbers;
-    let table = line_table(numbers);
+    let table = line_table(line.numbers);
     match plan_of(table) {
-        Planned::Accepted(plan) => list_plan(table.hosts, plan, out),
-        Planned::Refused(n) => put_refused(out, n),
+        Ok(plan) => list_plan(table.hosts, plan, out),
+        Err(refusal) => put_refused(out, refusal),
     }
 }

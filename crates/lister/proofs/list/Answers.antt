@@ -1,10 +1,10 @@
 -- `lister::list` meets its contract.
-use mathlib.Core.Path.{◌≡◌, sym, ap, ◌∙◌}
-use Prim.Native.Nat.{suc}
+use Rattle.std.proofs.Common.{◌≡◌, ◌∙◌, Result, suc, sym, ap}
 use borrow.Author.Tests.{not-true, not-false}
 use Rattle.algebra.specs.Lists.{tab}
+use Rattle.refusal.specs.declared.Refusal.{Refusal}
 use Rattle.plan.specs.declared.Table.{Table}
-use Rattle.plan.specs.declared.Planned.{Planned}
+use Rattle.plan.specs.declared.Plan.{Plan}
 use Rattle.plan.specs.Planning.{planned, table_job}
 use Rattle.lister_line.specs.declared.Line.{Line}
 use Rattle.lister.specs.Listing.{line_table, reply_text, listing}
@@ -14,10 +14,13 @@ use Rattle.lister.proofs.list.Goals.{After-plan_of}
 
 pub returns-then-not-line : goal.returns-then-not-line
 returns-then-not-line c =
-    let not-ok = ap (λ (l : Line). l.ok) (sym c.read_line-line.ensures) ∙ not-true _ c.if-not-line.true in let all = listed c.args.input.now (malformed c.args.input.now not-ok) c.put_refused.ensures in record { room = all.0; length = all.1.0; text = all.1.1 }
+    let not-ok = ap (λ (l : Line). l.ok) (sym c.read_line-line.ensures) ∙ not-true _ c.if-not-line.true in
+    let all = listed c.args.input.now (malformed c.args.input.now not-ok) c.put_refused.ensures in
+    record { room = all.0; length = all.1.0; text = all.1.1 }
 
 -- the text of what planning returns is what is printed
-reply_is : (c : After-plan_of) {outcome : Planned} → c.plan_of.result ≡ outcome → reply_text c.line_table-table.result.hosts outcome ≡ listing c.args.input.now
+reply_is : (c : After-plan_of) {outcome : Result Plan Refusal} → c.plan_of.result ≡ outcome
+    → reply_text c.line_table-table.result.hosts outcome ≡ listing c.args.input.now
 reply_is c {outcome} is =
     let input = c.args.input.now in
     let line = c.read_line-line in
@@ -26,10 +29,14 @@ reply_is c {outcome} is =
     ap (λ (t : Table). reply_text t.hosts outcome) table_is
     ∙ replied input ok (sym is ∙ c.plan_of.ensures ∙ ap (λ (t : Table). planned (table_job t) (tab suc t.hosts)) table_is)
 
-pub returns-in-Accepted : goal.returns-in-Accepted
+pub returns-in-Ok : goal.returns-in-Ok
 unfolding reply_text
-returns-in-Accepted c = let all = listed c.args.input.now (reply_is (goal.at.returns-in-Accepted c).After-plan_of c.in-Accepted.is) c.list_plan.ensures in record { room = all.0; length = all.1.0; text = all.1.1 }
+returns-in-Ok c =
+    let all = listed c.args.input.now (reply_is (goal.at.returns-in-Ok c).After-plan_of c.in-Ok.is) c.list_plan.ensures in
+    record { room = all.0; length = all.1.0; text = all.1.1 }
 
-pub returns-in-Refused : goal.returns-in-Refused
+pub returns-in-Err : goal.returns-in-Err
 unfolding reply_text
-returns-in-Refused c = let all = listed c.args.input.now (reply_is (goal.at.returns-in-Refused c).After-plan_of c.in-Refused.is) c.put_refused-in-Refused.ensures in record { room = all.0; length = all.1.0; text = all.1.1 }
+returns-in-Err c =
+    let all = listed c.args.input.now (reply_is (goal.at.returns-in-Err c).After-plan_of c.in-Err.is) c.put_refused-in-Err.ensures in
+    record { room = all.0; length = all.1.0; text = all.1.1 }

@@ -1,5 +1,4 @@
 -- `lister::put_grid` meets its contract.
-use Prim.Native.Nat.{◌-◌, ◌≤◌}
 use Rattle.layout.specs.Internal.{exponent_by}
 use Rattle.algebra.specs.Lists.{grid}
 use Rattle.text.specs.Internal.{Writes}
@@ -7,8 +6,4 @@ use Rattle.lister.specs.Listing.{values}
 use Rattle.lister.proofs.put_grid.Given as goal
 
 abbrev pub invariant-loop-i : goal.invariant-loop-i
-invariant-loop-i l =
-    record { short : l.i ≤ l.rows; is : Writes l.initial.out l.at (values (grid (exponent_by l.s l.series) l.i l.columns)) l.out l.next }
-
-abbrev pub decreases-loop-i : goal.decreases-loop-i
-decreases-loop-i l = l.rows - l.i
+invariant-loop-i l = Writes l.initial.out l.at (values (grid (exponent_by l.s l.series) l.i l.columns)) l.out l.next

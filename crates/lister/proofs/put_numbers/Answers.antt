@@ -7,5 +7,5 @@ pub returns : goal.returns
 unfolding number_lines
 returns c =
     let q = rw c.prime_of.ensures at c.put_line-a.ensures in
-    let layout = rw c.number_of.ensures at c.put_line-b.ensures in
+    let layout = rw c.from.ensures at c.put_line-b.ensures in
     then q (then layout (then c.put_line-c.ensures c.put_line.ensures))

@@ -6,4 +6,4 @@ use Rattle.lister.proofs.put_refused.Goals as goal
 
 pub returns : goal.returns
 unfolding refused_text
-returns c = lists (omega arith) c.put_line.ensures
+returns c = rw c.number.ensures at (lists (omega arith) c.put_line.ensures)

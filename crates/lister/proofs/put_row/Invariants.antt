@@ -1,5 +1,4 @@
 -- `lister::put_row` meets its contract.
-use Prim.Native.Nat.{◌-◌, ◌≤◌}
 use Rattle.algebra.specs.Lists.{tab}
 use Rattle.layout.specs.Internal.{exponent_by}
 use Rattle.text.specs.Internal.{Writes}
@@ -7,8 +6,4 @@ use Rattle.lister.specs.Listing.{values}
 use Rattle.lister.proofs.put_row.Given as goal
 
 abbrev pub invariant-loop-j : goal.invariant-loop-j
-invariant-loop-j l =
-    record { short : l.j ≤ l.columns; is : Writes l.initial.out l.at (values (tab (exponent_by l.s l.series l.i) l.j)) l.out l.next }
-
-abbrev pub decreases-loop-j : goal.decreases-loop-j
-decreases-loop-j l = l.columns - l.j
+invariant-loop-j l = Writes l.initial.out l.at (values (tab (exponent_by l.s l.series l.i) l.j)) l.out l.next
