@@ -1,4 +1,5 @@
 -- Laws of decoding.
+pub mod Answering
 pub mod Chosen
 pub mod Stored
 pub mod Tables

@@ -1,13 +1,15 @@
 -- What a call of decoding returns and leaves.
 --
---   limited         the plan of an accepted job keeps the limits
---   refused         by a number that is not 0: the table stays
---   done            by 0: the table is decoded
+--   few_needed      K is at most 64
+--   plan_refused, own_answered   planning refuses: so does the call; planning accepts: its own tests decide
+--   plan_is, few, room_length, wide, limited   the plan that planning returns is the job's, has room in an array of 64, and keeps
+--                   the limits
+--   kept            the call is refused: the table stays
 --   Passed          what decoding's own tests tell, once they have passed
 --   known, told     what all the tests tell then: of the plan, and of the hosts heard, the store and the table
 --   chosen_are, lowest_are   then K hosts are chosen: the lowest-numbered of all
---   few_needed      K is at most 64
---   within, roomy, decoded_is   the chosen hosts' indices have points, their weights have room, and the table that is put together
+--   cleared, lowest_chosen, as_many   no test of the call holds, and the chosen hosts fill the room for K indices
+--   within, roomy, decoded_is   these indices have points, the chosen hosts' weights have room, and the table that is put together
 --                   from their answers is the decoded one: all of the plan, the indices and points that the code has made
 use mathlib.Core.Path.{◌≡◌, refl, sym, ap, ap₂, ◌∙◌, subst}
 use mathlib.Core.Bool.{true, false, not, ◌||◌}
@@ -17,8 +19,8 @@ use native.Mathlib.Nat.{mul-le-mul}
 use native.Mathlib.Omega.{arith}
 use lib.Dec.{ltb}
 use lib.Count.{ones}
-use lib.ListN.{length, get_or, drop, length-map, drop_of_length-le}
-use lib.Seq.{get_or-take, get_or-drop}
+use lib.ListN.{length, get_or, take, drop, replicate, length-map, drop_of_length-le}
+use lib.Seq.{length-take-le, get_or-take, get_or-drop}
 use borrow.Author.Tests.{ltb-false, leb-false, not-false}
 use Rattle.algebra.specs.Lists.{entry, AllBelow}
 use Rattle.algebra.specs.Polynomials.{coefficient}
@@ -26,13 +28,16 @@ use Rattle.algebra.proofs.Tests.{or_left, or_right, equal, alike}
 use Rattle.algebra.proofs.Lists.{below_anywhere}
 use Rattle.algebra.proofs.Grids.{grid_cong}
 use Rattle.algebra.proofs.Points.{points_at}
-use Rattle.refusal.specs.Chain.{first, differs}
+use Rattle.refusal.specs.Chain.{first, answered, differs}
 use Rattle.refusal.specs.Limits.{most_elements}
-use Rattle.refusal.proofs.Chains.{first_clear, first_append_clear, unless_done, unless_refused_lem, inside}
+use Rattle.std.specs.Prelude.{Ok, Err}
+use Rattle.refusal.specs.declared.Refusal.{Refusal}
+use Rattle.refusal.proofs.Answered.{is_done, is_refused, refused_on, passed_on}
+use Rattle.refusal.proofs.Chains.{first_clear, first_append_clear, unless_refused_lem, inside}
 use Rattle.field.specs.Modulus.{prime as modulus_prime}
 use Rattle.plan.specs.declared.Job.{Job}
 use Rattle.plan.specs.declared.Plan.{Plan}
-use Rattle.plan.specs.Planning.{prime, parameters, needed_of, block_rows, block_columns, plan_of, plan_tests}
+use Rattle.plan.specs.Planning.{prime, parameters, needed_of, block_rows, block_columns, plan_of, plan_tests, planned}
 use Rattle.plan.proofs.Facts.{Facts, Fits, facts}
 use Rattle.plan.proofs.Sizes.{sizes, place_below}
 use Rattle.plan.proofs.Then.{own_prime, plan_numbered}
@@ -49,27 +54,56 @@ use Rattle.decode.proofs.Chosen.{Chosen, chosen_hosts}
 use Rattle.decode.proofs.Stored.{heard_block}
 use Rattle.decode.proofs.Tables.{blocks_pieces, weights_below, length_weights, piece_is}
 
-pub limited : (job : Job) (plan : Plan) → Fits job → plan ≡ plan_of job → Limited job plan
-unfolding plan_of
-limited job plan f is = record {
-  is = is;
-  modulus = ap (λ (p : Plan). modulus_prime p.modulus) is ∙ own_prime job f.known.is_number;
-  hosts = f.hosts_high;
-  tall = f.ranged.t.high;
-  wide = f.ranged.r.high;
-  block = f.block_c;
-}
+pub few_needed : (job : Job) → Fits job → needed_of job ≤ 64
+few_needed job f = omega (arith, f.enough, f.hosts_high)
 
-module _ (job : Job) (points : List ℕ) (heard : ℕ) (store table : List ℕ) where
-  pub refused : (k : ℕ) → (k ≡ 0 → ⊥) → first (decode_tests job points heard store (length table)) ≡ k
-      → (k ≡ first (decode_tests job points heard store (length table))) × (table ≡ table_after job points heard store table)
-  unfolding table_after
-  refused k ne e = (sym e, sym (unless_refused_lem (decode_tests job points heard store (length table)) (table_of job points heard store) table (λ z. ne (sym e ∙ z))))
+module _ (job : Job) (points : List ℕ) (heard : ℕ) (store : List ℕ) (room : ℕ) where
+  pub plan_refused : (r : Refusal) → Err r ≡ planned job points → Err r ≡ answered (decode_tests job points heard store room) (tt {0})
+  unfolding planned decode_tests
+  plan_refused = refused_on (plan_tests job points) (table_tests job heard store room) (plan_of job) tt
 
-  pub done : first (decode_tests job points heard store (length table)) ≡ 0 → (after : List ℕ) → after ≡ table_of job points heard store
-      → (0 ≡ first (decode_tests job points heard store (length table))) × (after ≡ table_after job points heard store table)
-  unfolding table_after
-  done e after is = (sym e, is ∙ sym (unless_done (decode_tests job points heard store (length table)) (table_of job points heard store) table e))
+  pub own_answered : (plan : Plan) → Ok plan ≡ planned job points
+      → answered (decode_tests job points heard store room) (tt {0}) ≡ answered (table_tests job heard store room) tt
+  unfolding planned decode_tests
+  own_answered plan e = passed_on (plan_tests job points) (table_tests job heard store room) (plan_of job) tt plan (plan_numbered job points) e
+
+module _ (job : Job) (points : List ℕ) (plan : Plan) (accepted : Ok plan ≡ planned job points) where
+  pub plan_is : plan ≡ plan_of job
+  unfolding planned
+  plan_is = (is_done (plan_tests job points) (plan_of job) plan accepted).1
+
+  fitting : Fits job
+  unfolding planned
+  fitting = (facts job points (is_done (plan_tests job points) (plan_of job) plan accepted).0).fits
+
+  pub few : plan.needed ≤ 64
+  unfolding plan_of
+  few = rw plan_is (few_needed job fitting)
+
+  pub room_length : length (take plan.needed (replicate {A = ℕ} 64 0)) ≡ plan.needed
+  room_length = length-take-le plan.needed (replicate 64 0) few
+
+  pub wide : plan.columns ≤ most_elements
+  unfolding plan_of
+  wide = rw plan_is (sizes job fitting).columns.high
+
+  pub limited : Limited job plan
+  unfolding plan_of
+  limited =
+      let f = fitting in
+      record {
+        is = plan_is;
+        modulus = ap (λ (p : Plan). modulus_prime p.modulus) plan_is ∙ own_prime job f.known.is_number;
+        hosts = f.hosts_high;
+        tall = f.ranged.t.high;
+        wide = f.ranged.r.high;
+        block = f.block_c;
+      }
+
+pub kept : (job : Job) (points : List ℕ) (heard : ℕ) (store table : List ℕ) (r : Refusal)
+    → Err r ≡ answered (decode_tests job points heard store (length table)) (tt {0}) → table ≡ table_after job points heard store table
+unfolding table_after
+kept job points heard store table r e = sym (unless_refused_lem _ _ table (is_refused _ _ r e).0)
 
 pub record Passed (job : Job) (heard : ℕ) (store : List ℕ) (room : ℕ) : Type 0 where
   pub none_above : heard < 2 ^ job.hosts
@@ -108,9 +142,6 @@ module _ (job : Job) (points : List ℕ) (heard : ℕ) (store : List ℕ) (room 
 
   pub told : Passed job heard store room
   told = passed job heard store room tests.1
-
-pub few_needed : (job : Job) → Fits job → needed_of job ≤ 64
-few_needed job f = omega (arith, f.enough, f.hosts_high)
 
 module _ (job : Job) (points : List ℕ) (heard : ℕ) (store : List ℕ) (room : ℕ) (f : Facts job points) (p : Passed job heard store room) where
   pub chosen_are : Chosen job points heard
@@ -205,24 +236,48 @@ module _ (job : Job) (points : List ℕ) (heard : ℕ) (store : List ℕ) (room 
       grid_cong _ (λ w v. table_entry job points heard store (w / job.n / block_rows job) (w % job.n) (w / job.n % block_rows job) v) (piece_count s) s.block_columns entry_is
       ∙ blocks_pieces (table_entry job points heard store) job.m (block_rows job) job.n (block_columns job)
 
-  module _ (plan : Plan) (is : plan ≡ plan_of job) (indices : List ℕ) (indices-are : indices ≡ chosen job heard) where
-    pub within : AllBelow (length points) indices
-    within = rw indices-are (λ i l. omega (arith, chosen_are.within i l, f.points_length))
+module _ (job : Job) (points : List ℕ) (heard : ℕ) (store : List ℕ) (room : ℕ) (plan : Plan) (accepted : Ok plan ≡ planned job points)
+    (passed : Ok tt ≡ answered (table_tests job heard store room) (tt {0})) where
+  pub cleared : first (decode_tests job points heard store room) ≡ 0
+  cleared = (is_done _ tt tt (passed ∙ sym (own_answered job points heard store room plan accepted))).0
 
-    pub roomy : (xs : List ℕ) → length xs ≡ length indices → Roomy plan (length xs) × (plan.columns ≤ most_elements)
+  f : Facts job points
+  f = known job points heard store room cleared
+
+  p : Passed job heard store room
+  p = told job points heard store room cleared
+
+  is : plan ≡ plan_of job
+  is = plan_is job points plan accepted
+
+  needed_is : plan.needed ≡ needed_of job
+  unfolding plan_of
+  needed_is = ap (λ (p : Plan). p.needed) is
+
+  pub lowest_chosen : (indices : List ℕ) → let out = take plan.needed (replicate {A = ℕ} 64 0) in
+      indices ≡ lowest (length out) heard 64 ++ drop (length (lowest (length out) heard 64)) out → indices ≡ chosen job heard
+  lowest_chosen indices e =
+      e ∙ lowest_are job points heard store room f p (take plan.needed (replicate 64 0)) (room_length job points plan accepted ∙ needed_is)
+
+  module _ (indices : List ℕ) (are : indices ≡ chosen job heard) where
+    pub as_many : length indices ≡ plan.needed
+    as_many = ap length are ∙ (chosen_are job points heard store room f p).count ∙ sym needed_is
+
+    pub within : AllBelow (length points) indices
+    within = rw are (λ i l. omega (arith, (chosen_are job points heard store room f p).within i l, f.points_length))
+
+    pub roomy : (xs : List ℕ) → xs ≡ points_at points indices → Roomy plan (length xs)
     unfolding block_count shape plan_of parameters needed_of
-    roomy xs size = rw (size, indices-are, chosen_are.count, is) (
-      record {
-        few = few_needed job f.fits;
-        split = f.fits.ranged.n.low;
-        small = mul-le-mul f.fits.ranged.m.high f.fits.ranged.n.high;
-        places = place_below job f.fits;
-      },
-      (sizes job f.fits).columns.high,
-    )
+    roomy xs e = rw (e, length-map indices (λ h. get_or points h 0), as_many, is) (record {
+      few = few_needed job f.fits;
+      split = f.fits.ranged.n.low;
+      small = mul-le-mul f.fits.ranged.m.high f.fits.ranged.n.high;
+      places = place_below job f.fits;
+    })
 
     pub decoded_is : (xs : List ℕ) → xs ≡ points_at points indices → (table : List ℕ) → length table ≡ room
         → weighted_table plan indices xs store table ≡ table_of job points heard store
     unfolding weighted_table
-    decoded_is xs xs-are table long = rw (xs-are, indices-are, is)
-        (sym (table_made q s hosts ws store (plan_of job).columns table (rw long fits)) ∙ table_exact)
+    decoded_is xs xs-are table long = rw (xs-are, are, is)
+        (sym (table_made _ _ _ _ store (plan_of job).columns table (rw long (fits job points heard store room f p)))
+        ∙ table_exact job points heard store room f p)

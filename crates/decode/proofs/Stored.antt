@@ -1,8 +1,8 @@
 -- The blocks in the store.
 --
---   heard_none, heard_more, heard_skip   the test of the blocks of the hosts heard, host by host
---   heard_block                          what it tells of one of them
-use mathlib.Core.Path.{◌≡◌, refl, sym, ap, ap₂, ◌∙◌}
+--   heard_none, heard_next   the test of the blocks of the hosts heard, host by host
+--   heard_block              what it tells of one of them
+use mathlib.Core.Path.{◌≡◌, refl, sym, ap, ◌∙◌}
 use mathlib.Core.Bool.{Bool, true, false, not, ◌&&◌, ◌||◌, true≢false}
 use mathlib.Core.Logic.{⊎_elim}
 use mathlib.Core.List.{List}
@@ -20,24 +20,9 @@ module _ (q size heard : ℕ) (store : List ℕ) where
   unfolding heard_below
   heard_none = refl
 
-  -- so far the test has told b
-  module _ (n : ℕ) (b : Bool) (so_far : b ≡ heard_below q size heard store n) where
-    pub heard_more : (t : Bool) → is_heard heard n ≡ true → t ≡ all_below q (block_at size store n)
-        → (b && not (not t)) ≡ heard_below q size heard store (n + 1)
-    unfolding heard_below
-    heard_more t is-heard test = rw (add-one, is-heard) (ap₂ ◌&&◌ so_far (go t ∙ test))
-      where
-        go : (t : Bool) → not (not t) ≡ t
-        go true = refl
-        go false = refl
-
-    pub heard_skip : is_heard heard n ≡ false → b ≡ heard_below q size heard store (n + 1)
-    unfolding heard_below
-    heard_skip not-heard = rw (add-one, not-heard) (so_far ∙ go (heard_below q size heard store n))
-      where
-        go : (t : Bool) → t ≡ (t && true)
-        go true = refl
-        go false = refl
+  pub heard_next : (n : ℕ) → heard_below q size heard store (n + 1) ≡ (heard_below q size heard store n && (not (is_heard heard n) || all_below q (block_at size store n)))
+  unfolding heard_below
+  heard_next n = rw add-one
 
   pub heard_block : (n : ℕ) → heard_below q size heard store n ≡ true → (i : ℕ) → i < n → is_heard heard i ≡ true → AllBelow q (block_at size store i)
   unfolding heard_below

@@ -1,14 +1,9 @@
 -- `decode::heard_below` meets its contract.
 use mathlib.Core.Path.{◌≡◌}
 use mathlib.Core.Bool.{not}
-use Prim.Native.Nat.{◌-◌, ◌≤◌}
 use Rattle.field.specs.Modulus.{prime}
 use Rattle.decode.specs.Decoding.{heard_below}
 use Rattle.decode.proofs.heard_below.Given as goal
 
 abbrev pub invariant-loop-index : goal.invariant-loop-index
-invariant-loop-index l =
-    record { is : not l.over ≡ heard_below (prime l.modulus) l.size l.heard l.store l.index; short : l.index ≤ l.hosts }
-
-abbrev pub decreases-loop-index : goal.decreases-loop-index
-decreases-loop-index l = l.hosts - l.index
+invariant-loop-index l = not l.over ≡ heard_below (prime l.modulus) l.size l.heard l.store l.index
