@@ -4,10 +4,8 @@
 
 ghost use Rattle.std.specs.Prelude.{◌≡◌, length};
 
-use masks::Drawn;
 use program_lines::{STDIN_FILENO, say, say_fault, say_front, say_number, say_refused};
-use text_numbers::{ReadOutcome, past_mark};
-use words::least;
+use text_numbers::past_mark;
 
 // A text must be shorter than this: room for the words of the largest side, as `od` writes them, and some more.
 const MOST_TEXT: usize = 786432;
@@ -18,25 +16,11 @@ const MOST_NUMBERS: usize = 393216;
 // The masks of the largest side: 16, each of 4096 elements.
 const MOST_ELEMENTS: usize = 65536;
 
-// Room for a text, and for the elements in decimal. Of this and the next two, lending needs the length alone.
-fn text_room() -> [u8; MOST_TEXT]
-    ensures { 786432 ≡ length result }
+// Room for as many numbers as the type says. Lending it needs their number alone.
+fn room<T: Copy, const N: usize>(zero: T) -> [T; N]
+    ensures { N ≡ length result }
 {
-    [0; MOST_TEXT]
-}
-
-// Room for the numbers of a text.
-fn number_room() -> [u32; MOST_NUMBERS]
-    ensures { 393216 ≡ length result }
-{
-    [0; MOST_NUMBERS]
-}
-
-// Room for the elements.
-fn element_room() -> [u32; MOST_ELEMENTS]
-    ensures { 65536 ≡ length result }
-{
-    [0; MOST_ELEMENTS]
+    [zero; N]
 }
 
 // Reads the numbers of a text, and returns how many; prints what is wrong with it, and then returns 0.
@@ -44,11 +28,11 @@ fn read(text: &[u8], numbers: &mut [u32]) -> usize
     ensures { length numbers.new ≡ length numbers.old }
 {
     match text_numbers::read_numbers(text, numbers) {
-        ReadOutcome::Fault(at) => {
-            say_fault(text, at);
+        Err(fault) => {
+            say_fault(text, fault.at);
             0
         }
-        ReadOutcome::Read(count) => {
+        Ok(count) => {
             if count < 2 {
                 say(b"EXPECTED a modulus number and a number of elements\n");
                 return 0;
@@ -69,10 +53,8 @@ fn put_line(out: &mut [u8], at: usize, n: u32) -> usize
 // Writes the elements in decimal, one a line.
 fn put_elements(out: &mut [u8], elements: &[u32]) -> usize {
     let mut at = 0;
-    let mut i = 0;
-    while i < elements.len() {
-        at = put_line(out, at, elements[i]);
-        i += 1;
+    for &element in elements {
+        at = put_line(out, at, element);
     }
     at
 }
@@ -80,8 +62,8 @@ fn put_elements(out: &mut [u8], elements: &[u32]) -> usize {
 // Draws elements from words and prints how many words were used, and the elements; or the number of the refusal.
 fn draw(modulus: u32, words: &[u32], elements: &mut [u32], lines: &mut [u8]) {
     match masks::draw_masks(modulus, words, elements) {
-        Drawn::Refused(number) => say_refused(number),
-        Drawn::Used(used) => {
+        Err(refusal) => say_refused(refusal.number()),
+        Ok(used) => {
             say_number(b"# USED ", used as u64);
             say(b"\n");
             let n = put_elements(lines, elements);
@@ -108,14 +90,14 @@ fn run(numbers: &[u32], elements: &mut [u32], lines: &mut [u8]) {
 
 // Reads the text, makes the rooms, and draws. The room of the text is that of the lines to print then.
 fn main() {
-    let mut text = text_room();
+    let mut text = room::<u8, MOST_TEXT>(0);
     let n = io::read_full(STDIN_FILENO, &mut text);
     if n == MOST_TEXT {
         say(b"TEXT TOO LONG: at most 786431 bytes\n");
         return;
     }
-    let mut numbers = number_room();
-    let count = least(read(past_mark(&text[..n]), &mut numbers), MOST_NUMBERS);
-    let mut elements = element_room();
+    let mut numbers = room::<u32, MOST_NUMBERS>(0);
+    let count = read(past_mark(&text[..n]), &mut numbers).min(MOST_NUMBERS);
+    let mut elements = room::<u32, MOST_ELEMENTS>(0);
     run(&numbers[..count], &mut elements, &mut text);
 }

@@ -2,9 +2,11 @@
 #![tactic(auto)]
 
 // The file descriptor of standard input.
+// Stays: a crate that has it would have to be named in crates.txt for it alone.
 const STDIN_FILENO: i32 = 0;
 
 // The file descriptor of standard output.
+// Stays: a crate that has it would have to be named in crates.txt for it alone.
 const STDOUT_FILENO: i32 = 1;
 
 fn main() {

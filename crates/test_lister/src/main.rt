@@ -3,46 +3,39 @@
 // Rust program in docs/src.
 #![tactic(auto)]
 
-ghost use Rattle.std.specs.Prelude.{◌≤◌, ◌<◌, length};
+ghost use Rattle.std.specs.Prelude.{◌<◌, length};
 
 // The file descriptor of standard input.
+// Stays: a crate that has it would have to be named in crates.txt for it alone.
 const STDIN_FILENO: i32 = 0;
 
 // The file descriptor of standard output.
+// Stays: a crate that has it would have to be named in crates.txt for it alone.
 const STDOUT_FILENO: i32 = 1;
 
-// A byte as a length.
-fn wide(byte: u8) -> usize
-    ensures { result < 256 }
+// Prints the listing of the first case, and returns the cases behind it; none where no case is whole.
+fn run_case(cases: &[u8]) -> &[u8]
+    ensures { 0 < length cases.now → length result.now < length cases.now }
 {
-    byte as usize
-}
-
-// Prints the listing of the case that starts at `at`, and returns where the next one starts; the end where there is none.
-fn run_case(cases: &[u8], at: usize) -> usize
-    requires { at ≤ length cases.now }
-    ensures { (result ≤ length cases.now) × (at < length cases.now → at < result) }
-{
-    let rest = &cases[at..];
-    if rest.len() < 2 {
-        return cases.len();
-    }
-    let size = wide(rest[0]) * 256 + wide(rest[1]);
-    if rest.len() - 2 < size {
-        return cases.len();
-    }
+    let Some((size, rest)) = cases.split_first_chunk() else {
+        return &[];
+    };
+    let size = u16::from_be_bytes(*size) as usize;
+    let Some((input, others)) = rest.split_at_checked(size) else {
+        return &[];
+    };
     let mut out = [0u8; lister::LISTING_ROOM];
-    let length = lister::list(&rest[2..2 + size], &mut out);
+    let length = lister::list(input, &mut out);
     io::write_all(STDOUT_FILENO, &out[..length]);
-    at + 2 + size
+    others
 }
 
 fn main() {
     let mut cases = io::large_buffer();
     let n = io::read_full(STDIN_FILENO, &mut cases);
-    let all = &cases[..n];
-    let mut at = 0;
-    while at < all.len() {
-        at = run_case(all, at);
+    let mut rest = &cases[..n];
+    // Stays: a case tells its own length, so no index is counted.
+    while !rest.is_empty() {
+        rest = run_case(rest);
     }
 }
