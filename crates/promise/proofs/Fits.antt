@@ -20,6 +20,7 @@ use borrow.Author.Tests.{eqb-true, eq-eqb, ltb-false, lt-leb, not-false}
 use Rattle.algebra.specs.Lists.{AllBelow}
 use Rattle.algebra.proofs.Lists.{all_below_test}
 use Rattle.algebra.proofs.Tests.{tests_alike, or_left, or_right, equal, alike}
+use Rattle.refusal.specs.Numbers.{refusal_of, sheet}
 use Rattle.refusal.specs.Chain.{Test, first, except, differs}
 use Rattle.refusal.proofs.Chains.{numbered, numbered_append, first_none, first_miss, first_append, first_append_clear, first_clear}
 use Rattle.refusal.proofs.Except.{except_append}
@@ -42,7 +43,7 @@ unfoldable pub core : Job → List ℕ → List Test
 core job message = message_tests message ++ answer_tests job (header_of message)
 
 pub core_numbered : (job : Job) (message : List ℕ) → T (numbered (core job message))
-unfolding core answer_tests numbered
+unfolding core answer_tests numbered refusal_of sheet
 core_numbered job message = numbered_append (message_tests message) (answer_tests job (header_of message)) (message_numbered message) tt
 
 -- the tests that are left after the plan's without 21 and 23; the store has room for that many elements

@@ -15,7 +15,8 @@ use lib.Seq.{drop_at}
 use Rattle.algebra.specs.Lists.{AllBelow, same}
 use Rattle.algebra.proofs.Lists.{same_refl, same_eq, same_append}
 use Rattle.algebra.proofs.Tests.{by_test}
-use Rattle.refusal.specs.Chain.{first, outcome}
+use Rattle.refusal.specs.Numbers.{refusal_of, sheet}
+use Rattle.refusal.specs.Chain.{first, outcome, answered}
 use Rattle.refusal.proofs.Chains.{first_none, first_hit, first_miss}
 use Rattle.message_bytes.specs.Bytes.{bytes_of}
 use Rattle.message_header.specs.declared.Header.{Header}
@@ -71,7 +72,7 @@ replied s message n h =
 
 pub reply_is : (x : Task) (s : State) (message : List ℕ) (minute : ℕ) {n : ℕ} {h : Bool} → number x s message minute ≡ n
     → is_heard s.heard (index message) ≡ h → reply x s (arrival message minute) ≡ replied s message n h
-unfolding reply arrives arrived entered number replied
+unfolding reply arrives arrived entered answered outcome number replied
 reply_is x s message minute e h = ap₂ (replied s message) e h
 
 module _ (x : Task) (s : State) (good : Good x s) (message : List ℕ) (minute : ℕ) (f : fit x s message minute ≡ true) where
@@ -81,7 +82,7 @@ module _ (x : Task) (s : State) (good : Good x s) (message : List ℕ) (minute :
 
   module _ (h : is_heard s.heard (index message) ≡ true) where
     by_repeated : (t : Bool) → repeated (answer_length x.job) s.store message ≡ t → reply x s (arrival message minute) ≡ cond t already differing
-    unfolding replied outcome already differing
+    unfolding replied outcome already differing refusal_of sheet
     by_repeated true e = reply_is x s message minute (number_fit x s good message minute f h e ∙ first_miss false 23 [] refl ∙ first_none) h
     by_repeated false e = reply_is x s message minute (number_fit x s good message minute f h e ∙ first_hit true 23 [] refl) h
 

@@ -10,7 +10,8 @@ use native.Mathlib.Nat.{not-suc-le-zero, le_of_suc-le-suc}
 use Rattle.algebra.specs.Lists.{tab, stack, grid, entry, all_below, same}
 use Rattle.algebra.proofs.Lists.{same_eq}
 use Rattle.algebra.specs.Sums.{sum}
-use Rattle.refusal.specs.Chain.{first, outcome, unless_refused, outside}
+use Rattle.refusal.specs.Numbers.{refusal_of, sheet}
+use Rattle.refusal.specs.Chain.{first, outcome, answered, unless_refused, outside}
 use Rattle.refusal.specs.Limits.{any_outside, sizes_outside, over_block}
 use Rattle.field.specs.Modulus.{moduli, modulus, no_modulus, named}
 use Rattle.layout.specs.Exponents.{exponents, layout1, layout2, layout3, stride_d, stride_e, better, choice, term}
@@ -42,7 +43,7 @@ all_right (l ∷ ls) e (suc i) h = all_right ls ((and-eq-true_iff (same l.0 l.1)
 
 -- the planning definitions, opened to compute
 computed : right starred ≡ true
-unfolding right same starred plan thresholds smallest job_with tab first outcome unless_refused outside any_outside sizes_outside over_block moduli modulus no_modulus named exponents layout1 layout2 layout3 stride_d stride_e better choice parameters prime modulus_of block_rows block_inner block_columns layout_of needed_of plan_of range_tests window_test fit_tests member point_tests_at all_point_tests point_tests plan_tests planned sum grid entry all_below term product_entry product_of product_tests product_after side block_entry mask_entry share_entry share_of point host_share block_length matrix_length mask_length matrix_tests share_tests share_after share starred_answer decoded signs reading stack members basis scale add add_root coefficient inverse last ones ones_in is_heard some_above lowest answer_length store_length block_at answer_entry chosen table_entry blocks table_of table_length heard_below table_tests decode_tests table_after half signed signed_tests signed_outcome signed_told
+unfolding right same starred plan thresholds smallest job_with tab refusal_of sheet first outcome answered unless_refused outside any_outside sizes_outside over_block moduli modulus no_modulus named exponents layout1 layout2 layout3 stride_d stride_e better choice parameters prime modulus_of block_rows block_inner block_columns layout_of needed_of plan_of range_tests window_test fit_tests member point_tests_at all_point_tests point_tests plan_tests planned sum grid entry all_below term product_entry product_of product_tests product_after side block_entry mask_entry share_entry share_of point host_share block_length matrix_length mask_length matrix_tests share_tests share_after share starred_answer decoded signs reading stack members basis scale add add_root coefficient inverse last ones ones_in is_heard some_above lowest answer_length store_length block_at answer_entry chosen table_entry blocks table_of table_length heard_below table_tests decode_tests table_after half signed signed_tests signed_outcome signed_told
 computed = refl
 
 pub starred_right : Right starred

@@ -25,7 +25,7 @@ use lib.ListN.{length}
 use borrow.Author.Tests.{eqb-true, eqb-false, eq-eqb, leb-false, not-false}
 use Rattle.algebra.specs.Lists.{AllBelow}
 use Rattle.algebra.proofs.Tests.{by_test, or_true, or_false, equal}
-use Rattle.refusal.specs.Chain.{first, outcome, unless_refused}
+use Rattle.refusal.specs.Chain.{first, outcome, answered, unless_refused}
 use Rattle.refusal.proofs.Chains.{first_none, first_miss, first_clear, first_append, first_append_clear, first_append_hit}
 use Rattle.plan.specs.Planning.{prime, in_window, plan_tests}
 use Rattle.plan.proofs.Then.{plan_numbered}
@@ -75,7 +75,7 @@ module _ (x : Task) (s : State) (message : List ℕ) (minute : ℕ) where
   number = first (arrival_tests x.job x.points s.heard s.store message minute)
 
   after_left : after x s (arrival message minute) ≡ left x s message number (is_heard s.heard (index message))
-  unfolding after arrives arrived entered store_after store_entered unless_refused left number
+  unfolding after arrives arrived entered store_after store_entered answered unless_refused outcome left number
   after_left = refl
 
   after_taken : number ≡ 0 → is_heard s.heard (index message) ≡ false → after x s (arrival message minute) ≡ taken x s message

@@ -35,6 +35,11 @@ pub record Ran (x : Task) (s : State) (cs : List Call) : Type 0 where
   pub below : (i : ℕ) → has_fit x s cs i ≡ true → AllBelow (prime x.job) (elements (first_fit x s cs i))
 
 module _ (x : Task) where
+  -- where the first call has none for a host, a fit message comes later
+  fit_later : (s : State) (c : Call) (cs : List Call) (i : ℕ) → fit_for x s i c ≡ false → has_fit x s (c ∷ cs) i ≡ has_fit x (after x s c) cs i
+  unfolding has_fit
+  fit_later s c cs i f = ap (λ (t : Bool). t || has_fit x (after x s c) cs i) f
+
   pub ran : (cs : List Call) (s : State) → Good x s → Ran x s cs
   unfolding run has_fit first_fit
   ran [] s good = record {
@@ -58,25 +63,30 @@ module _ (x : Task) where
         new = λ i clear e.
             ⊎_elim
             (λ (f : fit_for x s i c ≡ true).
-            rest.kept i (step.heard i ∙ or_true (is_heard s.heard i) (fit_for x s i c) f)
-            ∙ step.new i clear f
-            ∙ ap elements (sym (ap (λ (t : Bool). cond t (bytes x c) (first_fit x (after x s c) cs i)) f)))
+            rest.kept i (step.heard i ∙ or_true (is_heard s.heard i) (fit_for x s i c) f) ∙ step.new i clear f ∙ ap elements (sym (own i f)))
             (λ (f : fit_for x s i c ≡ false).
-            rest.new i (step.heard i ∙ or_false (is_heard s.heard i) (fit_for x s i c) f ∙ clear) (ap (λ (t : Bool). t || has_fit x (after x s c) cs i) (sym f) ∙ e)
-            ∙ ap elements (sym (ap (λ (t : Bool). cond t (bytes x c) (first_fit x (after x s c) cs i)) f)))
+            rest.new i (step.heard i ∙ or_false (is_heard s.heard i) (fit_for x s i c) f ∙ clear) (sym (fit_later s c cs i f) ∙ e)
+            ∙ ap elements (sym (later i f)))
             (by_test (fit_for x s i c));
         other = λ i e.
             rest.other i (or_right (fit_for x s i c) (has_fit x (after x s c) cs i) e)
             ∙ step.other i (or_left (fit_for x s i c) (has_fit x (after x s c) cs i) e);
         below = λ i e.
-            ⊎_elim
-            (λ (f : fit_for x s i c ≡ true).
-            subst (λ (m : List ℕ). AllBelow (prime x.job) (elements m)) (sym (ap (λ (t : Bool). cond t (bytes x c) (first_fit x (after x s c) cs i)) f)) (step.below i f))
-            (λ (f : fit_for x s i c ≡ false).
-            subst (λ (m : List ℕ). AllBelow (prime x.job) (elements m)) (sym (ap (λ (t : Bool). cond t (bytes x c) (first_fit x (after x s c) cs i)) f))
-            (rest.below i (ap (λ (t : Bool). t || has_fit x (after x s c) cs i) (sym f) ∙ e)))
+            let first_below : List ℕ → Type 0 = λ m. AllBelow (prime x.job) (elements m) in
+            ⊎_elim (λ (f : fit_for x s i c ≡ true). subst first_below (sym (own i f)) (step.below i f))
+            (λ (f : fit_for x s i c ≡ false). subst first_below (sym (later i f)) (rest.below i (sym (fit_later s c cs i f) ∙ e)))
             (by_test (fit_for x s i c));
       }
+        where
+          -- the first of all is this call's, or the first of the rest
+          first_is : Bool → ℕ → List ℕ
+          first_is t i = cond t (bytes x c) (first_fit x (after x s c) cs i)
+
+          own : (i : ℕ) → fit_for x s i c ≡ true → first_fit x s (c ∷ cs) i ≡ bytes x c
+          own i f = ap (λ (t : Bool). first_is t i) f
+
+          later : (i : ℕ) → fit_for x s i c ≡ false → first_fit x s (c ∷ cs) i ≡ first_fit x (after x s c) cs i
+          later i f = ap (λ (t : Bool). first_is t i) f
 
   pub heard_is : (store : List ℕ) → Good x (begin store) → (cs : List Call) (i : ℕ)
       → is_heard (run x (begin store) cs).heard i ≡ has_fit x (begin store) cs i
@@ -108,5 +118,5 @@ module _ (x : Task) (s : State) where
       go same (c ∷ cs) e =
           ⊎_elim (λ (f : fit_for x s i c ≡ true). own c f)
           (λ (f : fit_for x s i c ≡ false).
-          go same cs (ap (λ (t : State). has_fit x t cs i) (sym (same c)) ∙ ap (λ (t : Bool). t || has_fit x (after x s c) cs i) (sym f) ∙ e))
+          go same cs (ap (λ (t : State). has_fit x t cs i) (sym (same c)) ∙ sym (fit_later x s c cs i f) ∙ e))
           (by_test (fit_for x s i c))

@@ -14,6 +14,7 @@ use lib.Dec.{eqb, leb, ltb}
 use lib.ListN.{length}
 use borrow.Author.Tests.{eq-eqb, leb-true, ltb-true, le-leb, lt-ltb}
 use Rattle.algebra.proofs.Tests.{tests_alike, or_true}
+use Rattle.refusal.specs.Numbers.{refusal_of, sheet}
 use Rattle.refusal.specs.Chain.{first, outcome}
 use Rattle.refusal.proofs.Chains.{first_hit, first_append}
 use Rattle.plan.specs.declared.Job.{Job}
@@ -67,7 +68,7 @@ module _ (x : Task) (s : State) (message : List ℕ) where
   -- it is told 30, and changes nothing
   outside : s.heard < 2 ^ x.job.hosts → (minute : ℕ) → fit x s message x.job.opening ≡ true → in_window x.job minute ≡ false
       → (reply x s (arrival message minute) ≡ missed) × (after x s (arrival message minute) ≡ s)
-  unfolding minute_tests missed replied outcome
+  unfolding minute_tests missed replied outcome refusal_of sheet
   outside none minute f out =
       let has = fit_has x s message x.job.opening f in
       let told : number x s message minute ≡ 30

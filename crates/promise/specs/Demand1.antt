@@ -1,20 +1,21 @@
 -- Demand 1 (00): "Every plan, share, product, message, arrival and decoding inside the sheet's limits is carried out, and only
 -- the named part of a lent buffer is written. Every other input, a garden heard a second time included, gets the first refusal
 -- number that fits it in the sheet's order, and no element of any lent buffer changes."
--- It is said of the definitions that the calls' contracts cite; a call returns its number, and 0 means carried out. "A garden heard
--- a second time" gets 23 where its message differs from the first, and is "already in" where it does not (02, U1). A drawing of masks
--- (02, U3) and a page (02, U6) are calls like the others. An arrival carries its minute (02, U7). A host's whole part, reading, the
--- product and writing, is one call of the host's library for C; that its two messages belong together has numbers of its own.
+-- It is said of the definitions that the calls' contracts cite; what a call returns tells a number, and 0 means carried out. "A
+-- garden heard a second time" gets 23 where its message differs from the first, and is "already in" where it does not (02, U1). A
+-- drawing of masks (02, U3) and a page (02, U6) are calls like the others. An arrival carries its minute (02, U7). A host's whole
+-- part, reading, the product and writing, is one call of the host's library for C; that its two messages belong together has
+-- numbers of its own.
 --
 --   test tests i              == the test at i
 --   Judged tests n            == n is 0 exactly where no test holds; otherwise it is the number of the first that does
---   Obeys tests n after made was == a call with these tests returns n, judged by them; where n is 0 a lent buffer holds `made` after
---                                it, and otherwise what it held before
+--   Obeys tests n after made was == what a call with these tests returns tells n, judged by them; where n is 0 a lent buffer holds
+--                                `made` after it, and otherwise what it held before
 --   Tells tests t values      == what a call returns, on paper: its number is judged by the tests, and where it is 0 the values are
 --                                these; a refusal has none
 --   Demand1                   == every call is judged by its tests, in the sheet's order, and leaves its buffers so
 use Rattle.std.specs.Prelude.{◌≡◌, true, false, cond, ◌↔◌, List, [], ◌∷◌, ◌++◌, ℕ, ◌+◌, ◌*◌, ◌<◌, length, get_or, drop}
-use Rattle.refusal.specs.Chain.{Test, first, Told}
+use Rattle.refusal.specs.Chain.{Test, first, answered, number_in, Told}
 use Rattle.field.specs.Modulus.{modulus}
 use Rattle.plan.specs.declared.Job.{Job}
 use Rattle.plan.specs.Planning.{plan_tests, planned, plan_values}
@@ -45,6 +46,8 @@ pub record Judged (tests : List Test) (n : ℕ) : Type 0 where
       → (i : ℕ) × (i < length tests) × ((test tests i).0 ≡ true) × ((test tests i).1 ≡ n) × ((j : ℕ) → j < i → (test tests j).0 ≡ false)
 
 pub record Obeys (tests : List Test) (n : ℕ) (after made was : List ℕ) : Type 0 where
+  -- what it returns; where it is carried out, some calls return a value beside
+  pub returned : number_in (answered tests (tt {0})) ≡ n
   pub judged : Judged tests n
   pub carried_out : n ≡ 0 → after ≡ made
   pub refused : (n ≡ 0 → ⊥) → after ≡ was
@@ -74,6 +77,7 @@ pub record Demand1 : Type 0 where
   -- the answer has is told
   pub answer : (a b out : List ℕ) → let tests = host_answer_tests a b (length out) in
       Obeys tests (first tests) (host_answer_after a b out) (host_answer a b ++ drop (length (host_answer a b)) out) out
+      × (number_in (answered tests (length (host_answer a b))) ≡ first tests)
       × (first tests ≡ 0 → length (host_answer a b) ≡ 16 + 4 * element_count (pair_header (header_of a) (header_of b)))
   pub write : (h : Header) (xs out : List ℕ) → let tests = write_tests h xs (length out) in
       Obeys tests (first tests) (written h xs out) (message_of h xs) out

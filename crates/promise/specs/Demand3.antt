@@ -22,9 +22,10 @@
 --   Trace                == the claim about a whole list of arrivals and decodings
 --   Made                 == K and the messages are what sharing, the host's product, planning and writing give
 --   Demand3              == the demand
-use Rattle.std.specs.Prelude.{◌≡◌, Bool, true, false, cond, ◌&&◌, ◌||◌, ◌↔◌, List, [], ◌∷◌, ◌++◌, ℕ, suc, ◌+◌, ◌*◌, ◌^◌, ◌<◌, ◌≤◌, eqb, length, get_or, drop}
+use Rattle.std.specs.Prelude.{◌≡◌, Bool, true, false, cond, ◌&&◌, ◌||◌, ◌↔◌, List, [], ◌∷◌, ◌++◌, ℕ, suc, ◌+◌, ◌*◌, ◌^◌, ◌<◌, ◌≤◌, eqb, length, get_or, drop, Result}
 use Rattle.algebra.specs.Lists.{AllBelow}
 use Rattle.algebra.specs.Sets.{size}
+use Rattle.refusal.specs.declared.Refusal.{Refusal}
 use Rattle.refusal.specs.Chain.{first, except, done}
 use Rattle.plan.specs.declared.Job.{Job}
 use Rattle.plan.specs.Planning.{prime, block_rows, block_inner, block_columns, needed_of, in_window, plan_tests, planned, told, plan_values}
@@ -155,7 +156,7 @@ unanswered = record { number = 99; already = false; table = [] }
 
 module _ (x : Task) where
   -- what an arrival returns
-  unfoldable pub arrives : State → List ℕ → ℕ → Arrived
+  unfoldable pub arrives : State → List ℕ → ℕ → Result Arrived Refusal
   arrives s message minute = arrived x.job x.points s.heard s.store message minute
 
   -- "Each later one takes the hosts heard and the store as the one before left them, a refused one too; nobody writes in the

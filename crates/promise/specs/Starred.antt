@@ -13,8 +13,9 @@
 --   reading r      == what signed reading tells on paper: its number, and of a value sign and size
 --   starred        == the table
 --   Right lines    == in each line the two are the same
-use Rattle.std.specs.Prelude.{◌≡◌, List, [], ◌∷◌, ◌++◌, ℕ, suc, ◌<◌, ℤ, pos, negsuc, length, get_or}
+use Rattle.std.specs.Prelude.{◌≡◌, List, [], ◌∷◌, ◌++◌, ℕ, suc, ◌<◌, ℤ, pos, negsuc, length, get_or, Result}
 use Rattle.algebra.specs.Lists.{tab}
+use Rattle.refusal.specs.declared.Refusal.{Refusal}
 use Rattle.layout.specs.declared.Layout.{Layout}
 use Rattle.layout.specs.declared.Layout.TheVariants.{First, Second, Third}
 use Rattle.layout.specs.Exponents.{exponents}
@@ -25,7 +26,6 @@ use Rattle.share_side.specs.declared.Matrix.{Matrix}
 use Rattle.share_side.specs.declared.Matrix.TheVariants.{A, B}
 use Rattle.share.specs.Sharing.{share_after}
 use Rattle.decode.specs.Decoding.{table_after}
-use Rattle.field_signed.specs.declared.Signed.{Signed}
 use Rattle.field_signed.specs.Signed.{signed_outcome, signed_told}
 
 abbrev pub Line : Type 0
@@ -57,7 +57,7 @@ signs [] = []
 signs (pos n ∷ zs) = 0 ∷ n ∷ signs zs
 signs (negsuc n ∷ zs) = 1 ∷ suc n ∷ signs zs
 
-unfoldable pub reading : Signed → List ℕ
+unfoldable pub reading : Result ℤ Refusal → List ℕ
 reading r = let t = signed_told r in t.number ∷ signs t.values
 
 unfoldable pub job_with : ℕ → ℕ → ℕ → ℕ → ℕ → ℕ → Job
