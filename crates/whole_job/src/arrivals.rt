@@ -1,142 +1,87 @@
 // The answers, taken in the order given, each at its minute.
-ghost use Rattle.std.specs.Prelude.{◌≡◌, ◌<◌, length};
-
-use crate::hosts::{Turn, work};
-use crate::lines::{put_end, put_value};
+use crate::hosts::{Desk, Turn};
 use crate::planning::Whole;
-use crate::rooms::{answer_size, message_size};
-use crate::sections;
-use crate::sections::numbers_of;
+use crate::sharing::Shares;
 use arrival::Arrived;
-use program_lines::{say, say_front, say_number};
-use words::least;
+use program_lines::{say, say_number};
+use refusal::{MOST_HOSTS, Refusal};
 
 // Prints what became of a host's answer: some words and a number.
 fn say_answer(host: u32, words: &[u8], number: u32) {
-    say_number(b"host ", host as u64);
-    say_number(words, number as u64);
+    say_number(b"host ", u64::from(host));
+    say_number(words, u64::from(number));
     say(b"\n");
 }
 
-// Prints that a host's answer was refused.
-fn say_turned_down(host: u32, number: u32) {
-    say_answer(host, b" refused ", number);
+// The bank while answers come in: the points and the shares of all hosts, the store of the answers, and the hosts heard.
+#[derive(Drop)]
+struct Bank<'a, 's> {
+    points: &'a [u32],
+    shares: Shares<'a>,
+    store: &'s mut [u32],
+    heard: u64,
 }
 
-// Lets an answer's message arrive, prints what became of it, and returns the hosts heard then.
-fn take_message(turn: Turn, points: &[u32], store: &mut [u32], message: &[u8]) -> u64 {
-    let job = turn.job;
-    match arrival::arrive(job, points, turn.heard, store, message, turn.minute) {
-        Arrived::Refused(number) => {
-            say_turned_down(turn.host, number);
-            turn.heard
-        }
-        Arrived::AlreadyIn => {
-            say_answer(
-                turn.host,
-                b" already in, heard ",
-                u64::count_ones(turn.heard),
-            );
-            turn.heard
-        }
-        Arrived::Taken(heard) => {
-            say_answer(turn.host, b" taken, heard ", u64::count_ones(heard));
-            heard
-        }
+impl<'a, 's> Bank<'a, 's> {
+    // Has a host work on its shares, and lets its answer's message arrive.
+    fn take(&mut self, turn: Turn, desk: &mut Desk) -> Result<Arrived, Refusal> {
+        let message = turn.work(self.shares, desk)?;
+        arrival::arrive(
+            turn.job,
+            self.points,
+            self.heard,
+            self.store,
+            message,
+            turn.minute,
+        )
     }
-}
 
-// Has a host work on its shares, and takes its answer, unless enough are heard or it is no host of the job; returns the hosts
-// heard then.
-fn hear(
-    turn: Turn,
-    points: &[u32],
-    shares: &[u32],
-    store: &mut [u32],
-    pair: &mut [u32],
-    product: &mut [u32],
-    message: &mut [u8],
-) -> u64 {
-    let job = turn.job;
-    let sizes = turn.sizes;
-    if turn.needed <= u64::count_ones(turn.heard) {
-        say_answer(turn.host, b" late, heard ", turn.needed);
-        return turn.heard;
+    // Takes a host's answer, unless enough are heard, and prints what became of it.
+    fn hear(&mut self, turn: Turn, desk: &mut Desk) {
+        let heard = self.heard.count_ones();
+        if turn.plan.needed <= heard {
+            return say_answer(turn.host, b" late, heard ", turn.plan.needed);
+        }
+        match self.take(turn, desk) {
+            Err(refusal) => say_answer(turn.host, b" refused ", refusal.number()),
+            Ok(Arrived::AlreadyIn) => say_answer(turn.host, b" already in, heard ", heard),
+            Ok(Arrived::Taken(after)) => {
+                self.heard = after;
+                say_answer(turn.host, b" taken, heard ", after.count_ones());
+            }
+        }
     }
-    if turn.host == 0 || job.hosts < turn.host {
-        say_turned_down(turn.host, refusal::HOST);
-        return turn.heard;
-    }
-    let number = work(turn, shares, pair, product, message);
-    if number != 0 {
-        say_turned_down(turn.host, number);
-        return turn.heard;
-    }
-    let n = least(message_size(answer_size(sizes)), message.len());
-    take_message(turn, points, store, &message[..n])
 }
 
 // Takes answers in the order given, a host and its minute each; prints what becomes of each, and returns the hosts heard.
-pub(crate) fn hear_all(
-    whole: Whole,
-    numbers: &[u32],
-    shares: &[u32],
-    store: &mut [u32],
-    pair: &mut [u32],
-    product: &mut [u32],
-    message: &mut [u8],
-) -> u64 {
-    let job = whole.job;
-    let sizes = whole.sizes;
-    let starts = whole.starts;
-    let points = numbers_of(numbers, &starts, sections::POINTS);
-    let order = numbers_of(numbers, &starts, sections::ANSWERS);
-    let answers = order.len() / 2;
-    let mut heard = 0;
-    let mut i = 0;
-    while i < answers {
-        let at = 2 * i;
+pub(crate) fn hear_all(whole: &Whole, shares: Shares, store: &mut [u32]) -> u64 {
+    let mut desk = Desk::new();
+    let mut bank = Bank {
+        points: whole.sections.points.numbers,
+        shares,
+        store,
+        heard: 0,
+    };
+    let (answers, _) = whole.sections.answers.numbers.as_chunks::<2>();
+    for &[host, minute] in answers {
         let turn = Turn {
-            job,
-            sizes,
-            needed: whole.needed,
-            host: order[at],
-            minute: order[at + 1],
-            heard,
+            job: whole.job,
+            plan: whole.plan,
+            host,
+            minute,
         };
-        heard = hear(turn, points, shares, store, pair, product, message);
-        i += 1;
+        bank.hear(turn, &mut desk);
     }
-    heard
-}
-
-// ---- the hosts heard
-
-// Writes the host with an index where it is heard.
-fn put_host(out: &mut [u8], at: usize, heard: u64, index: u32) -> usize
-    requires { index < 64 }
-    ensures { length out.new ≡ length out.old }
-{
-    if arrival_heard::is_heard(heard, index) {
-        return put_value(out, at, index + 1);
-    }
-    at
-}
-
-// Writes the hosts heard.
-fn put_heard(out: &mut [u8], heard: u64) -> usize {
-    let mut at = 0;
-    let mut index = 0;
-    while index < refusal::MOST_HOSTS {
-        at = put_host(out, at, heard, index);
-        index += 1;
-    }
-    put_end(out, at)
+    bank.heard
 }
 
 // Prints the hosts heard.
-pub(crate) fn say_heard(heard: u64, lines: &mut [u8]) {
+pub(crate) fn say_heard(heard: u64) {
     say(b"HEARD");
-    let n = put_heard(lines, heard);
-    say_front(lines, n);
+    for index in 0..MOST_HOSTS {
+        if arrival_heard::is_heard(heard, index) {
+            say_number(b" ", u64::from(index + 1));
+        }
+    }
+    say(b"\n");
 }

@@ -1,17 +1,50 @@
-// Numbers of a line, written into a buffer.
-ghost use Rattle.std.specs.Prelude.{◌≡◌, length};
+// Lines that are written into a buffer, and printed when it is nearly full or at their end.
+use program_lines::say_front;
+use words::room;
 
-// Writes a space and a number.
-pub(crate) fn put_value(out: &mut [u8], at: usize, n: u32) -> usize
-    ensures { length out.new ≡ length out.old }
-{
-    let next = text::put_bytes(out, at, b" ");
-    text::put_decimal(out, next, n)
+// The bytes of the buffer, and those after which they are printed.
+const ROOM: usize = 4096;
+
+const FULL: usize = 4000;
+
+// The buffer, and how many bytes are written in it.
+#[derive(Drop)]
+pub(crate) struct Lines {
+    bytes: [u8; ROOM],
+    at: usize,
 }
 
-// Writes the end of a line.
-pub(crate) fn put_end(out: &mut [u8], at: usize) -> usize
-    ensures { length out.new ≡ length out.old }
-{
-    text::put_bytes(out, at, b"\n")
+impl Lines {
+    // No lines.
+    pub(crate) fn new() -> Lines {
+        Lines {
+            bytes: room(0),
+            at: 0,
+        }
+    }
+
+    // Prints what is written, and goes on with nothing.
+    pub(crate) fn print(&mut self) {
+        say_front(&self.bytes, self.at);
+        self.at = 0;
+    }
+
+    // Makes room for more: prints what is written where the buffer is nearly full.
+    fn flush(&mut self) {
+        if FULL <= self.at {
+            self.print();
+        }
+    }
+
+    // Writes some bytes.
+    pub(crate) fn put(&mut self, bytes: &[u8]) {
+        self.flush();
+        self.at = text::put_bytes(&mut self.bytes, self.at, bytes);
+    }
+
+    // Writes a number.
+    pub(crate) fn put_number(&mut self, n: u32) {
+        self.flush();
+        self.at = text::put_decimal(&mut self.bytes, self.at, n);
+    }
 }

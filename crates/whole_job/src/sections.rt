@@ -1,212 +1,155 @@
 // The seven sections of a text: each has its word, and then its numbers.
-ghost use Rattle.std.specs.Prelude.{◌≡◌, ◌≤◌, ◌<◌, length};
-
 use program_lines::{say, say_fault, say_number, say_position};
-use text_numbers::{ReadOutcome, front_of, rest_of};
-use words::least;
-
-// The sections, in their order.
-pub(crate) const JOB: usize = 0;
-
-pub(crate) const POINTS: usize = 1;
-
-pub(crate) const A: usize = 2;
-
-pub(crate) const B: usize = 3;
-
-pub(crate) const MASKS_A: usize = 4;
-
-pub(crate) const MASKS_B: usize = 5;
-
-pub(crate) const ANSWERS: usize = 6;
-
-// How many sections there are.
-const SECTIONS: usize = 7;
-
-// How many bytes the longest word has.
-const LONGEST: usize = 7;
+use text_numbers::{front_of, rest_of};
 
 // A text must be shorter than this.
 pub(crate) const MOST_TEXT: usize = 65536;
 
-// What reading a section returns: the offset after it, and how many numbers are read by then; or that something is wrong,
-// which is printed.
+// A section: its word, the line of its word, and its numbers.
 #[derive(Clone, Copy)]
-enum Read {
-    Done(usize, usize),
-    Wrong,
+pub(crate) struct Section<'a> {
+    word: &'a [u8],
+    line: usize,
+    pub(crate) numbers: &'a [u32],
 }
 
-// ---- words
-
-// The words of the sections, each with spaces up to the length of the longest.
-fn all_words() -> [u8; 49]
-    ensures { 49 ≡ length result }
-{
-    *b"JOB    POINTS A      B      MASKS_AMASKS_BANSWERS"
+// The sections, in their order.
+#[derive(Clone, Copy)]
+pub(crate) struct Sections<'a> {
+    pub(crate) job: Section<'a>,
+    pub(crate) points: Section<'a>,
+    pub(crate) a: Section<'a>,
+    pub(crate) b: Section<'a>,
+    pub(crate) masks_a: Section<'a>,
+    pub(crate) masks_b: Section<'a>,
+    pub(crate) answers: Section<'a>,
 }
 
-// The word at the front of some bytes.
-fn word_of(bytes: &[u8]) -> &[u8] {
-    front_of(bytes, text_numbers::token_end(bytes))
-}
-
-// Two lists of bytes are the same.
-fn same(xs: &[u8], ys: &[u8]) -> bool {
-    if xs.len() != ys.len() {
-        return false;
+impl<'a> Section<'a> {
+    // Prints how many numbers the section has.
+    fn say_has(self) {
+        say(b"SECTION ");
+        say(self.word);
+        say_number(b" has ", self.numbers.len() as u64);
+        say(b" numbers");
     }
-    let mut i = 0;
-    while i < xs.len() {
-        if xs[i] != ys[i] {
-            return false;
+
+    // Prints the line of the section's word.
+    fn say_line(self) {
+        say_number(b", line ", self.line as u64);
+        say(b"\n");
+    }
+
+    // Prints how many numbers the section has and needs, and the line of its word.
+    pub(crate) fn say_count(self, needs: usize) {
+        self.say_has();
+        say_number(b" and needs ", needs as u64);
+        self.say_line();
+    }
+
+    // The section has as many numbers as it needs; prints it where it has not.
+    pub(crate) fn has(self, needs: usize) -> bool {
+        if self.numbers.len() == needs {
+            return true;
         }
-        i += 1;
+        self.say_count(needs);
+        false
     }
-    true
-}
 
-// The bytes are the word of a section.
-fn is_word(bytes: &[u8], section: usize) -> bool
-    requires { section < 7 }
-{
-    let words = all_words();
-    let start = section * LONGEST;
-    let end = start + LONGEST;
-    same(bytes, word_of(&words[start..end]))
-}
-
-// Prints the word of a section.
-fn say_word(section: usize)
-    requires { section < 7 }
-{
-    let words = all_words();
-    let start = section * LONGEST;
-    let end = start + LONGEST;
-    say(word_of(&words[start..end]));
-}
-
-// ---- what is wrong with a text
-
-// Prints which word was expected at an offset.
-fn say_expected(text: &[u8], section: usize, at: usize)
-    requires { section < 7 }
-{
-    say(b"EXPECTED the word ");
-    say_word(section);
-    say_position(text, at);
-    say(b"\n");
-}
-
-// Prints how many numbers a section has.
-fn say_has(section: usize, has: usize)
-    requires { section < 7 }
-{
-    say(b"SECTION ");
-    say_word(section);
-    say_number(b" has ", has as u64);
-    say(b" numbers");
-}
-
-// Prints the line of a section's word.
-fn say_line(line: usize) {
-    say_number(b", line ", line as u64);
-    say(b"\n");
-}
-
-// Prints how many numbers a section has and needs, and the line of its word.
-pub(crate) fn say_count(section: usize, has: usize, needs: usize, line: usize)
-    requires { section < 7 }
-{
-    say_has(section, has);
-    say_number(b" and needs ", needs as u64);
-    say_line(line);
-}
-
-// Prints how many numbers the answers have, where the last host has no minute after it, and the line of their word.
-pub(crate) fn say_no_minute(has: usize, line: usize) {
-    say_has(ANSWERS, has);
-    say(b" and needs a minute after each host");
-    say_line(line);
-}
-
-// ---- offsets, and parts of the numbers
-
-// The offset that is so much further on, in a text or in its numbers.
-fn further(at: usize, more: usize) -> usize
-    ensures { result ≤ 131072 }
-{
-    least(at, MOST_TEXT) + least(more, MOST_TEXT)
-}
-
-// The numbers of a section; the next one starts where it ends.
-pub(crate) fn numbers_of<'a>(numbers: &'a [u32], starts: &[usize; 8], section: usize) -> &'a [u32]
-    requires { section < 7 }
-{
-    let end = least(starts[section + 1], numbers.len());
-    let start = least(starts[section], end);
-    &numbers[start..end]
+    // Every host of the answers has a minute after it; prints it where the last has none.
+    pub(crate) fn has_minutes(self) -> bool {
+        if self.numbers.len() % 2 == 0 {
+            return true;
+        }
+        self.say_has();
+        say(b" and needs a minute after each host");
+        self.say_line();
+        false
+    }
 }
 
 // ---- reading
 
-// Reads the numbers from an offset of the text up to the next word, and puts them past the numbers that are read already.
-fn read_part(text: &[u8], at: usize, numbers: &mut [u32], count: usize) -> Read
-    ensures { length numbers.new ≡ length numbers.old }
-{
-    let after = rest_of(text, at);
-    let end = text_numbers::first_word(after);
-    let start = least(count, numbers.len());
-    match text_numbers::read_numbers(front_of(after, end), &mut numbers[start..]) {
-        ReadOutcome::Fault(fault) => {
-            say_fault(text, further(at, fault));
-            Read::Wrong
+// A text, the offset up to which it is read, and the room that is left for its numbers.
+#[derive(Drop)]
+struct Reader<'t, 'a> {
+    text: &'t [u8],
+    at: usize,
+    room: &'a mut [u32],
+}
+
+// Prints the position of an offset, and the end of the line.
+fn say_place(text: &[u8], at: usize) {
+    say_position(text, at);
+    say(b"\n");
+}
+
+// The word stands at an offset of the text; prints it where it does not.
+fn has_word(text: &[u8], at: usize, word: &[u8]) -> bool {
+    let rest = rest_of(text, at);
+    if front_of(rest, text_numbers::token_end(rest)) == word {
+        return true;
+    }
+    say(b"EXPECTED the word ");
+    say(word);
+    say_place(text, at);
+    false
+}
+
+impl<'t, 'a> Reader<'t, 'a> {
+    // Reads the section of a word: the word, and the numbers up to the next word. Where something is wrong, prints it.
+    fn section(self, word: &'a [u8]) -> Option<(Section<'a>, Reader<'t, 'a>)> {
+        let Reader { text, at, room } = self;
+        if !has_word(text, at, word) {
+            return None;
         }
-        ReadOutcome::Read(more) => Read::Done(further(at, end), further(count, more)),
-    }
-}
-
-// Reads a section at an offset of the text.
-fn read_section(text: &[u8], section: usize, at: usize, numbers: &mut [u32], count: usize) -> Read
-    requires { section < 7 }
-    ensures { length numbers.new ≡ length numbers.old }
-{
-    let word = word_of(rest_of(text, at));
-    if !is_word(word, section) {
-        say_expected(text, section, at);
-        return Read::Wrong;
-    }
-    read_part(text, further(at, word.len()), numbers, count)
-}
-
-// Reads all sections: where the numbers of each start and end, and the line of its word. Returns whether the text is as it
-// should be, and prints the first thing that is wrong.
-pub(crate) fn read_sections(
-    text: &[u8],
-    numbers: &mut [u32],
-    starts: &mut [usize; 8],
-    word_lines: &mut [usize; 7],
-) -> bool {
-    let mut at = text_numbers::first_token(text);
-    let mut count = 0;
-    let mut section = 0;
-    while section < SECTIONS {
-        let Read::Done(next, more) = read_section(text, section, at, numbers, count) else {
-            return false;
+        let start = at.saturating_add(word.len());
+        let after = rest_of(text, start);
+        let end = text_numbers::first_word(after);
+        let count = match text_numbers::read_numbers(front_of(after, end), room) {
+            Ok(count) => count.min(room.len()),
+            Err(fault) => {
+                say_fault(text, start.saturating_add(fault.at));
+                return None;
+            }
         };
-        let position = text_numbers::position_of(text, at);
-        word_lines[section] = position.line;
-        starts[section] = count;
-        at = next;
-        count = more;
-        section += 1;
+        let (numbers, room) = room.split_at_mut(count);
+        let line = text_numbers::position_of(text, at).line;
+        let at = start.saturating_add(end);
+        Some((
+            Section {
+                word,
+                line,
+                numbers,
+            },
+            Reader { text, at, room },
+        ))
     }
-    starts[SECTIONS] = count;
-    if at < text.len() {
+}
+
+// Reads all sections of a text; prints the first thing that is wrong.
+pub(crate) fn read_sections<'a>(text: &[u8], room: &'a mut [u32]) -> Option<Sections<'a>> {
+    let at = text_numbers::first_token(text);
+    let reader = Reader { text, at, room };
+    let (job, reader) = reader.section(b"JOB")?;
+    let (points, reader) = reader.section(b"POINTS")?;
+    let (a, reader) = reader.section(b"A")?;
+    let (b, reader) = reader.section(b"B")?;
+    let (masks_a, reader) = reader.section(b"MASKS_A")?;
+    let (masks_b, reader) = reader.section(b"MASKS_B")?;
+    let (answers, reader) = reader.section(b"ANSWERS")?;
+    if reader.at < text.len() {
         say(b"EXPECTED the end of the text");
-        say_position(text, at);
-        say(b"\n");
-        return false;
+        say_place(text, reader.at);
+        return None;
     }
-    true
+    Some(Sections {
+        job,
+        points,
+        a,
+        b,
+        masks_a,
+        masks_b,
+        answers,
+    })
 }

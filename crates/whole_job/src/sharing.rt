@@ -1,81 +1,39 @@
 // The shares of all hosts.
-ghost use Rattle.std.specs.Prelude.{◌≤◌};
-ghost use Rattle.refusal.specs.Limits.{most_elements};
-
+use crate::blocks::{block_at, block_size};
 use crate::planning::Whole;
-use crate::rooms::{ELEMENT_ROOM, blocks, size_a, size_b};
-use crate::sections;
-use crate::sections::numbers_of;
-use plan::Job;
+use refusal::Refusal;
 use share::Matrix;
-use words::least;
 
-// Makes the shares of a matrix for all hosts, one after another; returns the number of the first refusal, or 0.
-fn share_all(
-    matrix: Matrix,
-    job: Job,
-    points: &[u32],
-    xs: &[u32],
-    masks: &[u32],
-    size: usize,
-    out: &mut [u32],
-) -> u32
-    requires { size ≤ most_elements }
-{
-    let mut index = 0;
-    while index < job.hosts {
-        let start = blocks(index, size);
-        let end = start + size;
-        if out.len() < end {
-            return refusal::LENGTH;
-        }
-        let number = share::share(
-            matrix,
-            job,
-            points,
-            index + 1,
-            xs,
-            masks,
-            &mut out[start..end],
-        );
-        if number != 0 {
-            return number;
-        }
-        index += 1;
-    }
-    0
+// The shares of both matrices, for all hosts one after another.
+#[derive(Clone, Copy)]
+pub(crate) struct Shares<'a> {
+    pub(crate) a: &'a [u32],
+    pub(crate) b: &'a [u32],
 }
 
-// Makes the shares of A and then of B for all hosts; returns the number of the first refusal, or 0.
-pub(crate) fn share_both(whole: Whole, numbers: &[u32], shares: &mut [u32]) -> u32 {
-    let job = whole.job;
-    let sizes = whole.sizes;
-    let starts = whole.starts;
-    let points = numbers_of(numbers, &starts, sections::POINTS);
-    let a = numbers_of(numbers, &starts, sections::A);
-    let masks_a = numbers_of(numbers, &starts, sections::MASKS_A);
-    let b = numbers_of(numbers, &starts, sections::B);
-    let masks_b = numbers_of(numbers, &starts, sections::MASKS_B);
-    let middle = least(ELEMENT_ROOM, shares.len());
-    let number = share_all(
-        Matrix::A,
-        job,
-        points,
-        a,
-        masks_a,
-        size_a(sizes),
-        &mut shares[..middle],
-    );
-    if number != 0 {
-        return number;
+// Makes the shares of a matrix for all hosts.
+fn share_all(whole: &Whole, matrix: Matrix, out: &mut [u32]) -> Result<(), Refusal> {
+    let sections = whole.sections;
+    let points = sections.points.numbers;
+    let (xs, masks) = match matrix {
+        Matrix::A => (sections.a.numbers, sections.masks_a.numbers),
+        Matrix::B => (sections.b.numbers, sections.masks_b.numbers),
+    };
+    let size = block_size(matrix, whole.plan);
+    for index in 0..whole.job.hosts {
+        let share = out.get_mut(block_at(size, index)).ok_or(Refusal::Length)?;
+        share::share(matrix, whole.job, points, index + 1, xs, masks, share)?;
     }
-    share_all(
-        Matrix::B,
-        job,
-        points,
-        b,
-        masks_b,
-        size_b(sizes),
-        &mut shares[middle..],
-    )
+    Ok(())
+}
+
+// Makes the shares of both matrices for all hosts, in the rooms lent.
+pub(crate) fn share_both<'a>(
+    whole: &Whole,
+    a: &'a mut [u32],
+    b: &'a mut [u32],
+) -> Result<Shares<'a>, Refusal> {
+    share_all(whole, Matrix::A, a)?;
+    share_all(whole, Matrix::B, b)?;
+    Ok(Shares { a, b })
 }

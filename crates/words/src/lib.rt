@@ -1,7 +1,7 @@
 // Machine words: the leaf operations on numbers that the crates above share.
 #![tactic(auto)]
 
-ghost use Rattle.std.specs.Prelude.{◌≡◌, ◌+◌, ◌*◌, ◌%◌, min, get_or};
+ghost use Rattle.std.specs.Prelude.{◌≡◌, ◌+◌, ◌*◌, ◌%◌, length, min, get_or};
 
 // The smaller of two numbers.
 pub fn least(a: usize, b: usize) -> usize
@@ -43,4 +43,11 @@ pub fn element_at(xs: &[u32], i: usize) -> u32
     ensures { result ≡ get_or xs.now i 0 }
 {
     if i < xs.len() { xs[i] } else { 0 }
+}
+
+// Room for as many elements as the type says, all one value. Lending it needs their number alone.
+pub fn room<T: Copy, const N: usize>(value: T) -> [T; N]
+    ensures { N ≡ length result }
+{
+    [value; N]
 }
