@@ -19,7 +19,7 @@ pub(crate) struct Whole<'a> {
     pub(crate) sections: Sections<'a>,
 }
 
-// The job of the section JOB; prints its count where it has too few or too many numbers.
+// The job of the section JOB; where its numbers are too few or too many, their count is printed.
 fn job_of(section: Section) -> Option<Job> {
     let &[
         modulus,

@@ -47,7 +47,7 @@ impl<'a> Section<'a> {
         self.say_line();
     }
 
-    // The section has as many numbers as it needs; prints it where it has not.
+    // The section has as many numbers as it needs; where it has not, that is printed.
     pub(crate) fn has(self, needs: usize) -> bool {
         if self.numbers.len() == needs {
             return true;
@@ -56,7 +56,7 @@ impl<'a> Section<'a> {
         false
     }
 
-    // Every host of the answers has a minute after it; prints it where the last has none.
+    // Every host of the answers has a minute after it; where the last has none, that is printed.
     pub(crate) fn has_minutes(self) -> bool {
         if self.numbers.len() % 2 == 0 {
             return true;
@@ -84,7 +84,7 @@ fn say_place(text: &[u8], at: usize) {
     say(b"\n");
 }
 
-// The word stands at an offset of the text; prints it where it does not.
+// The word stands at an offset of the text; where it does not, that is printed.
 fn has_word(text: &[u8], at: usize, word: &[u8]) -> bool {
     let rest = rest_of(text, at);
     if front_of(rest, text_numbers::token_end(rest)) == word {
@@ -97,7 +97,7 @@ fn has_word(text: &[u8], at: usize, word: &[u8]) -> bool {
 }
 
 impl<'t, 'a> Reader<'t, 'a> {
-    // Reads the section of a word: the word, and the numbers up to the next word. Where something is wrong, prints it.
+    // Reads the section of a word: the word, and the numbers up to the next word. What is wrong is printed.
     fn section(self, word: &'a [u8]) -> Option<(Section<'a>, Reader<'t, 'a>)> {
         let Reader { text, at, room } = self;
         if !has_word(text, at, word) {

@@ -18,7 +18,7 @@ fn put_signed(lines: &mut Lines, x: i64) {
     lines.put_number(u32::try_from(x.unsigned_abs()).unwrap_or(0));
 }
 
-// Writes a row of a table, its elements read in a way.
+// Writes a row of a table: what is read from each element.
 fn put_row<F: Fn(u32) -> Result<i64, Refusal>>(
     lines: &mut Lines,
     row: &[u32],
@@ -36,7 +36,7 @@ fn put_row<F: Fn(u32) -> Result<i64, Refusal>>(
     Ok(())
 }
 
-// Prints the rows of a table, its elements read in a way.
+// Prints the rows of a table: what is read from each element.
 fn say_rows<F: Fn(u32) -> Result<i64, Refusal>>(
     columns: u32,
     table: &[u32],
@@ -67,8 +67,8 @@ pub(crate) fn say_table(whole: &Whole, heard: u64, store: &[u32]) -> Result<(), 
     let job = whole.job;
     let points = whole.sections.points.numbers;
     let n = area(job.t, job.r).min(ELEMENT_ROOM);
-    let mut room = room::<u32, ELEMENT_ROOM>(0);
-    let table = &mut room[..n];
+    let mut elements = room::<u32, ELEMENT_ROOM>(0);
+    let table = &mut elements[..n];
     decode::decode(job, points, heard, store, table)?;
     say(b"TABLE\n");
     say_rows(job.r, table, |v| Ok(i64::from(v)))?;
