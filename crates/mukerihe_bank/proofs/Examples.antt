@@ -18,7 +18,8 @@ use Rattle.refusal.specs.Chain.{first, outcome, unless_refused}
 use Rattle.plan.specs.declared.Job.{Job}
 use Rattle.message_header.specs.Header.{fields}
 use Rattle.arrival.specs.declared.Arrived.TheVariants.{Taken, AlreadyIn}
-use Rattle.mukerihe_bank.specs.Bank.{job_of, header_of, counted, if_counted, already_after}
+use Rattle.plan.specs.Words.{job_of}
+use Rattle.mukerihe_bank.specs.Bank.{header_of, counted, if_counted, already_after}
 
 abbrev few : List ℕ
 few = 22 ∷ 23 ∷ 24 ∷ 25 ∷ 26 ∷ 27 ∷ 28 ∷ 29 ∷ 30 ∷ 31 ∷ 32 ∷ 33 ∷ []

@@ -33,7 +33,7 @@ use Rattle.plan.proofs.Then.{plan_numbered}
 use Rattle.share_side.specs.declared.Matrix.{Matrix}
 use Rattle.share_side.specs.Sides.{matrix_tests}
 use Rattle.share.specs.Sharing.{share_tests}
-use Rattle.product.specs.Product.{product_tests}
+use Rattle.product.specs.Product.{tests_by_size, product_tests}
 use Rattle.message_header.specs.declared.Header.{Header}
 use Rattle.message_header.specs.Header.{field_tests}
 use Rattle.message.specs.Format.{write_tests}
@@ -109,7 +109,7 @@ unfolding share_tests matrix_tests numbered refusal_of sheet
 share_numbered m job points host xs masks room = numbered_append (plan_tests job points) _ (plan_numbered job points) tt
 
 pub product_numbered : (n rows inner columns : ℕ) (a b : List ℕ) (room : ℕ) → T (numbered (product_tests n rows inner columns a b room))
-unfolding product_tests numbered refusal_of sheet
+unfolding product_tests tests_by_size numbered refusal_of sheet
 product_numbered n rows inner columns a b room = tt
 
 pub write_numbered : (h : Header) (xs : List ℕ) (room : ℕ) → T (numbered (write_tests h xs room))

@@ -1,52 +1,86 @@
 -- `mukerihe_bank::mukerihe_arrive` meets its contract.
 use mathlib.Core.Path.{◌≡◌, sym, ap, ◌∙◌}
+use mathlib.Core.List.{List}
+use Prim.Native.Nat.{ℕ}
+use lib.ListN.{length}
+use Rattle.std.specs.Prelude.{Result, Ok, Err}
+use Rattle.refusal.specs.declared.Refusal.{Refusal}
 use Rattle.refusal.specs.Chain.{first}
 use Rattle.plan.specs.declared.Job.{Job}
 use Rattle.arrival.specs.declared.Arrived.{Arrived}
+use Rattle.arrival.specs.declared.Arrived.TheVariants.{Taken, AlreadyIn}
+use Rattle.plan.specs.Words.{job_of}
+use Rattle.arrival.proofs.Outcomes.{arrived_number}
 use Rattle.arrival.specs.Arriving.{arrival_tests, arrived, store_after, number_of, heard_after}
-use Rattle.mukerihe_bank.specs.Bank.{job_of, counted, if_counted, already_after}
-use Rattle.mukerihe_bank.proofs.Outcomes.{miscounted, kept, well_counted, made, arrived_number}
+use Rattle.mukerihe_bank.specs.Bank.{counted, if_counted, already_after}
+use Rattle.mukerihe_bank.proofs.Outcomes.{miscounted, kept, well_counted, made}
 use Rattle.mukerihe_bank.proofs.mukerihe_arrive.Goals as goal
-use Rattle.mukerihe_bank.proofs.mukerihe_arrive.Goals.{After-arrive-arrived}
 
 pub returns-then-job-ne-JOB_WORDS : goal.returns-then-job-ne-JOB_WORDS
 returns-then-job-ne-JOB_WORDS c =
     let words = c.args.job.now in
-    let other = c.if-job-ne-JOB_WORDS.true in record { number = miscounted 13 words other _; heard = kept 13 words other _ _; kept = kept 13 words other _ _; already = kept 13 words other _ _ }
+    let other = c.if-job-ne-JOB_WORDS.true in record { number = c.number.ensures ∙ miscounted 13 words other _; heard = kept 13 words other _ _; kept = kept 13 words other _ _; already = kept 13 words other _ _ }
 
--- what is told and left, whichever outcome it is
-outcome-is : (p : After-arrive-arrived) (r : Arrived) → p.arrive-arrived.result ≡ r
-    → let a = p.args in
-    let words = a.job.now in
-    let outcome = arrived (job_of words) a.points.now a.heard.now a.store.now a.message.now a.minute in
-    (number_of r ≡ first (counted 13 words (arrival_tests (job_of words) a.points.now a.heard.now a.store.now a.message.now a.minute)))
-    × ((heard_after a.heard.now r ≡ if_counted 13 words (heard_after a.heard.now outcome) a.heard.now)
-    × ((p.arrive-arrived.new.store ≡ if_counted 13 words (store_after (job_of words) a.points.now a.heard.now a.store.now a.message.now a.minute) a.store.now)
-    × (already_after a.already.now r ≡ if_counted 13 words (already_after a.already.now outcome) a.already.now)))
-outcome-is p r e =
-    let a = p.args in
-    let words = a.job.now in
-    let same = p.if-job-ne-JOB_WORDS.false in
-    let job = p.job_of.ensures in
-    let is = sym (p.arrive-arrived.ensures.outcome ∙ ap (λ (x : Job). arrived x a.points.now a.heard.now a.store.now a.message.now a.minute) job) ∙ e in (
-      sym (ap number_of is) ∙ arrived_number (job_of words) a.points.now a.heard.now a.store.now a.message.now a.minute ∙ sym (well_counted 13 words same _),
-      (
-        sym (ap (heard_after a.heard.now) is) ∙ sym (made 13 words same _ _),
-        (
-          p.arrive-arrived.ensures.kept ∙ ap (λ (x : Job). store_after x a.points.now a.heard.now a.store.now a.message.now a.minute) job ∙ sym (made 13 words same _ _),
-          sym (ap (already_after a.already.now) is) ∙ sym (made 13 words same _ _),
-        ),
-      ),
-    )
+-- what is told and left, whichever outcome it is, where the job's words are so many
+module _ (words points : List ℕ) (heard : ℕ) (store message : List ℕ) (minute : ℕ) (same : length words ≡ 13) (job : Job) (is : job ≡ job_of words) where
+  abbrev outcome : Result Arrived Refusal
+  outcome = arrived (job_of words) points heard store message minute
 
-pub returns-in-Refused : goal.returns-in-Refused
-unfolding already_after
-returns-in-Refused c = let all = outcome-is (goal.at.returns-in-Refused c).After-arrive-arrived _ c.in-Refused.is in record { number = all.0; heard = all.1.0; kept = all.1.1.0; already = all.1.1.1 }
+  module _ (r : Result Arrived Refusal) (e : r ≡ arrived job points heard store message minute) where
+    same-outcome : r ≡ outcome
+    same-outcome = e ∙ ap (λ (x : Job). arrived x points heard store message minute) is
+
+    number-is : number_of r ≡ first (counted 13 words (arrival_tests (job_of words) points heard store message minute))
+    number-is = ap number_of same-outcome ∙ arrived_number (job_of words) points heard store message minute ∙ sym (well_counted 13 words same _)
+
+    heard-is : heard_after heard r ≡ if_counted 13 words (heard_after heard outcome) heard
+    heard-is = ap (heard_after heard) same-outcome ∙ sym (made 13 words same _ _)
+
+    already-is : (already : ℕ) → already_after already r ≡ if_counted 13 words (already_after already outcome) already
+    already-is already = ap (already_after already) same-outcome ∙ sym (made 13 words same _ _)
+
+  kept-is : (after : List ℕ) → after ≡ store_after job points heard store message minute
+      → after ≡ if_counted 13 words (store_after (job_of words) points heard store message minute) store
+  kept-is after e = e ∙ ap (λ (x : Job). store_after x points heard store message minute) is ∙ sym (made 13 words same _ _)
 
 pub returns-in-AlreadyIn : goal.returns-in-AlreadyIn
 unfolding already_after
-returns-in-AlreadyIn c = let all = outcome-is (goal.at.returns-in-AlreadyIn c).After-arrive-arrived _ c.in-AlreadyIn.is in record { number = all.0; heard = all.1.0; kept = all.1.1.0; already = all.1.1.1 }
+returns-in-AlreadyIn c =
+    let a = c.args in
+    let same = c.if-job-ne-JOB_WORDS.false in
+    let told = c.in-AlreadyIn.ensures in
+    let r : Result Arrived Refusal = (Ok AlreadyIn) in
+    record {
+      number = number-is a.job.now a.points.now a.heard.now a.store.now a.message.now a.minute same _ c.job_of.ensures r told.outcome;
+      heard = heard-is a.job.now a.points.now a.heard.now a.store.now a.message.now a.minute same _ c.job_of.ensures r told.outcome;
+      kept = kept-is a.job.now a.points.now a.heard.now a.store.now a.message.now a.minute same _ c.job_of.ensures _ told.kept;
+      already = already-is a.job.now a.points.now a.heard.now a.store.now a.message.now a.minute same _ c.job_of.ensures r told.outcome a.already.now;
+    }
 
 pub returns-in-Taken : goal.returns-in-Taken
 unfolding already_after
-returns-in-Taken c = let all = outcome-is (goal.at.returns-in-Taken c).After-arrive-arrived _ c.in-Taken.is in record { number = all.0; heard = all.1.0; kept = all.1.1.0; already = all.1.1.1 }
+returns-in-Taken c =
+    let a = c.args in
+    let same = c.if-job-ne-JOB_WORDS.false in
+    let told = c.in-Taken.ensures in
+    let r : Result Arrived Refusal = (Ok (Taken c.in-Taken.after)) in
+    record {
+      number = number-is a.job.now a.points.now a.heard.now a.store.now a.message.now a.minute same _ c.job_of.ensures r told.outcome;
+      heard = heard-is a.job.now a.points.now a.heard.now a.store.now a.message.now a.minute same _ c.job_of.ensures r told.outcome;
+      kept = kept-is a.job.now a.points.now a.heard.now a.store.now a.message.now a.minute same _ c.job_of.ensures _ told.kept;
+      already = already-is a.job.now a.points.now a.heard.now a.store.now a.message.now a.minute same _ c.job_of.ensures r told.outcome a.already.now;
+    }
+
+pub returns-in-Err : goal.returns-in-Err
+unfolding already_after
+returns-in-Err c =
+    let a = c.args in
+    let same = c.if-job-ne-JOB_WORDS.false in
+    let told = c.in-Err.ensures in
+    let r : Result Arrived Refusal = (Err c.in-Err.refusal) in
+    record {
+      number = c.number.ensures ∙ number-is a.job.now a.points.now a.heard.now a.store.now a.message.now a.minute same _ c.job_of.ensures r told.outcome;
+      heard = heard-is a.job.now a.points.now a.heard.now a.store.now a.message.now a.minute same _ c.job_of.ensures r told.outcome;
+      kept = kept-is a.job.now a.points.now a.heard.now a.store.now a.message.now a.minute same _ c.job_of.ensures _ told.kept;
+      already = already-is a.job.now a.points.now a.heard.now a.store.now a.message.now a.minute same _ c.job_of.ensures r told.outcome a.already.now;
+    }

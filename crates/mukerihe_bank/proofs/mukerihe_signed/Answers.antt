@@ -1,36 +1,39 @@
 -- `mukerihe_bank::mukerihe_signed` meets its contract.
-use mathlib.Core.Path.{◌≡◌, sym, ap, ◌∙◌}
+use mathlib.Core.Path.{◌≡◌, ap, ◌∙◌}
+use Prim.Native.Nat.{ℕ}
+use lib.IntN.{ℤ}
 use lib.ListN.{get_or}
 use mir.Syntax.{w64}
 use mir.Val.{to_z, of_z}
 use borrow.Author.Rules.{rules}
+use Rattle.std.specs.Prelude.{Result, Ok, Err}
+use Rattle.refusal.specs.declared.Refusal.{Refusal}
 use Rattle.refusal.specs.Chain.{first, unless_refused}
 use Rattle.field.specs.Modulus.{modulus}
-use Rattle.field_signed.specs.declared.Signed.{Signed}
-use Rattle.field_signed.specs.Signed.{signed, signed_tests, signed_told}
+use Rattle.field_signed.specs.Signed.{signed, signed_tests, signed_outcome, signed_told}
 use Rattle.field_signed.proofs.Outcomes.{signed_told_lem}
 use Rattle.mukerihe_bank.proofs.Outcomes.{told_value}
 use Rattle.mukerihe_bank.proofs.mukerihe_signed.Goals as goal
-use Rattle.mukerihe_bank.proofs.mukerihe_signed.Goals.{After-signed_reading-reading, In-Value}
+use Rattle.mukerihe_bank.proofs.mukerihe_signed.Goals.{In-Ok}
 
 -- what is told and left, whichever outcome it is
-outcome-is : (p : After-signed_reading-reading) (r : Signed) → p.signed_reading-reading.result ≡ r
-    → let a = p.args in
-    let tests = signed_tests a.modulus a.element in
-    ((signed_told r).number ≡ first tests) × (get_or (signed_told r).values 0 a.value.now ≡ unless_refused tests (signed (modulus a.modulus) a.element) a.value.now)
-outcome-is p r is =
-    let a = p.args in
-    told_value _ _ _ (ap signed_told (sym is ∙ p.signed_reading-reading.ensures) ∙ signed_told_lem a.modulus a.element)
-
-pub returns-in-Refused : goal.returns-in-Refused
-unfolding signed_told
-returns-in-Refused c = let all = outcome-is (goal.at.returns-in-Refused c).After-signed_reading-reading _ c.in-Refused.is in record { number = all.0; value = all.1 }
+outcome-is : (n v : ℕ) (was : ℤ) (r : Result ℤ Refusal) → r ≡ signed_outcome n v
+    → ((signed_told r).number ≡ first (signed_tests n v))
+    × (get_or (signed_told r).values 0 was ≡ unless_refused (signed_tests n v) (signed (modulus n) v) was)
+outcome-is n v was r is = told_value _ _ _ (ap signed_told is ∙ signed_told_lem n v)
 
 -- the value is held as it was read
-held : (c : In-Value) → to_z w64 (of_z w64 c.in-Value.read) ≡ c.in-Value.read
+held : (c : In-Ok) → to_z w64 (of_z w64 c.in-Ok.read) ≡ c.in-Ok.read
 held c = search rules
 
-pub returns-in-Value : goal.returns-in-Value
+pub returns-in-Ok : goal.returns-in-Ok
 unfolding signed_told
-returns-in-Value c =
-    let o = outcome-is (goal.at.returns-in-Value c).After-signed_reading-reading _ c.in-Value.is in record { number = o.0; value = held c ∙ o.1 }
+returns-in-Ok c =
+    let o = outcome-is c.args.modulus c.args.element c.args.value.now (Ok c.in-Ok.read) c.in-Ok.ensures in
+    record { number = o.0; value = held c ∙ o.1 }
+
+pub returns-in-Err : goal.returns-in-Err
+unfolding signed_told
+returns-in-Err c =
+    let o = outcome-is c.args.modulus c.args.element c.args.value.now (Err c.in-Err.refusal) c.in-Err.ensures in
+    record { number = c.number.ensures ∙ o.0; value = o.1 }
