@@ -10,14 +10,12 @@
 --   or_was                    the values that an outcome tells, or what was there where it tells none
 --   told                     what C is told of a call without a value is what its tests tell
 --   share_numbered, ..       each test of a call has a number
---   set_all                   values written over a list, one after another
---   set_all_lem                  the list is then the values, where it is as long as they are
 use mathlib.Core.Path.{◌≡◌, refl, sym, ap, ◌∙◌}
 use mathlib.Core.Bool.{Bool, true, false, not, ◌||◌}
 use mathlib.Core.List.{List, [], ◌∷◌}
-use Prim.Native.Nat.{ℕ, suc}
-use native.Mathlib.Nat.{suc-ne-zero, suc_inj}
-use lib.ListN.{length, get_or, set}
+use Prim.Native.Nat.{ℕ}
+use native.Mathlib.Nat.{suc-ne-zero}
+use lib.ListN.{length, get_or}
 use borrow.Author.Tests.{ne_eqb}
 use Rattle.algebra.proofs.Tests.{alike}
 use lib.Dec.{T}
@@ -33,7 +31,7 @@ use Rattle.plan.proofs.Then.{plan_numbered}
 use Rattle.share_side.specs.declared.Matrix.{Matrix}
 use Rattle.share_side.specs.Sides.{matrix_tests}
 use Rattle.share.specs.Sharing.{share_tests}
-use Rattle.product.specs.Product.{tests_by_size, product_tests}
+use Rattle.product.specs.Product.{product_tests}
 use Rattle.message_header.specs.declared.Header.{Header}
 use Rattle.message_header.specs.Header.{field_tests}
 use Rattle.message.specs.Format.{write_tests}
@@ -109,7 +107,7 @@ unfolding share_tests matrix_tests numbered refusal_of sheet
 share_numbered m job points host xs masks room = numbered_append (plan_tests job points) _ (plan_numbered job points) tt
 
 pub product_numbered : (n rows inner columns : ℕ) (a b : List ℕ) (room : ℕ) → T (numbered (product_tests n rows inner columns a b room))
-unfolding product_tests tests_by_size numbered refusal_of sheet
+unfolding product_tests numbered refusal_of sheet
 product_numbered n rows inner columns a b room = tt
 
 pub write_numbered : (h : Header) (xs : List ℕ) (room : ℕ) → T (numbered (write_tests h xs room))
@@ -123,17 +121,3 @@ decode_numbered job points heard store room = numbered_append (plan_tests job po
 pub page_numbered : (n t r : ℕ) (table : List ℕ) (room : ℕ) → T (numbered (page_tests n t r table room))
 unfolding page_tests numbered refusal_of sheet
 page_numbered n t r table room = tt
-
-abbrev set_all : List ℕ → List ℕ → ℕ → List ℕ
-set_all [] xs i = xs
-set_all (v ∷ vs) xs i = set_all vs (set xs i v) (suc i)
-
-set_past : (vs : List ℕ) (x : ℕ) (xs : List ℕ) (i : ℕ) → set_all vs (x ∷ xs) (suc i) ≡ x ∷ set_all vs xs i
-set_past [] x xs i = refl
-set_past (v ∷ vs) x xs i = set_past vs x (set xs i v) (suc i)
-
-pub set_all_lem : (vs xs : List ℕ) → length xs ≡ length vs → set_all vs xs 0 ≡ vs
-set_all_lem [] [] e = refl
-set_all_lem [] (x ∷ xs) e = absurd (suc-ne-zero (length xs) e)
-set_all_lem (v ∷ vs) [] e = absurd (suc-ne-zero (length vs) (sym e))
-set_all_lem (v ∷ vs) (x ∷ xs) e = set_past vs v xs 0 ∙ ap (λ (l : List ℕ). v ∷ l) (set_all_lem vs xs (suc_inj e))

@@ -70,11 +70,13 @@ pub extern "C" fn mukerihe_plan(job: &[u32], points: &[u32], values: &mut [u32])
     }
     match plan::plan_job(job_of(job), points) {
         Ok(plan) => {
-            values[0] = u32::from(plan.layout);
-            values[1] = plan.needed;
-            values[2] = plan.rows;
-            values[3] = plan.inner;
-            values[4] = plan.columns;
+            values.copy_from_slice(&[
+                u32::from(plan.layout),
+                plan.needed,
+                plan.rows,
+                plan.inner,
+                plan.columns,
+            ]);
             0
         }
         Err(refusal) => refusal.number(),
@@ -216,12 +218,7 @@ pub extern "C" fn mukerihe_read(message: &[u8], elements: &mut [u32], fields: &m
     }
     match message::read_message(message, elements) {
         Ok(h) => {
-            fields[0] = h.kind;
-            fields[1] = h.modulus;
-            fields[2] = h.host;
-            fields[3] = h.rows;
-            fields[4] = h.columns;
-            fields[5] = h.number;
+            fields.copy_from_slice(&[h.kind, h.modulus, h.host, h.rows, h.columns, h.number]);
             0
         }
         Err(refusal) => refusal.number(),

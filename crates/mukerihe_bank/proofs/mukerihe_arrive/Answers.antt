@@ -43,32 +43,32 @@ module _ (words points : List ℕ) (heard : ℕ) (store message : List ℕ) (min
       → after ≡ if_counted 13 words (store_after (job_of words) points heard store message minute) store
   kept-is after e = e ∙ ap (λ (x : Job). store_after x points heard store message minute) is ∙ sym (made 13 words same _ _)
 
-pub returns-in-AlreadyIn : goal.returns-in-AlreadyIn
+pub returns-in-Ok-AlreadyIn : goal.returns-in-Ok-AlreadyIn
 unfolding already_after
-returns-in-AlreadyIn c =
+returns-in-Ok-AlreadyIn c =
     let a = c.args in
     let same = c.if-job-ne-JOB_WORDS.false in
-    let told = c.in-AlreadyIn.ensures in
     let r : Result Arrived Refusal = (Ok AlreadyIn) in
+    let e : r ≡ arrived c.job_of.result a.points.now a.heard.now a.store.now a.message.now a.minute = sym (ap Ok c.in-Ok-AlreadyIn.field-0-is) ∙ c.in-Ok-AlreadyIn.ensures.outcome in
     record {
-      number = number-is a.job.now a.points.now a.heard.now a.store.now a.message.now a.minute same _ c.job_of.ensures r told.outcome;
-      heard = heard-is a.job.now a.points.now a.heard.now a.store.now a.message.now a.minute same _ c.job_of.ensures r told.outcome;
-      kept = kept-is a.job.now a.points.now a.heard.now a.store.now a.message.now a.minute same _ c.job_of.ensures _ told.kept;
-      already = already-is a.job.now a.points.now a.heard.now a.store.now a.message.now a.minute same _ c.job_of.ensures r told.outcome a.already.now;
+      number = number-is a.job.now a.points.now a.heard.now a.store.now a.message.now a.minute same _ c.job_of.ensures r e;
+      heard = heard-is a.job.now a.points.now a.heard.now a.store.now a.message.now a.minute same _ c.job_of.ensures r e;
+      kept = kept-is a.job.now a.points.now a.heard.now a.store.now a.message.now a.minute same _ c.job_of.ensures _ c.in-Ok-AlreadyIn.ensures.kept;
+      already = already-is a.job.now a.points.now a.heard.now a.store.now a.message.now a.minute same _ c.job_of.ensures r e a.already.now;
     }
 
-pub returns-in-Taken : goal.returns-in-Taken
+pub returns-in-Ok-Taken : goal.returns-in-Ok-Taken
 unfolding already_after
-returns-in-Taken c =
+returns-in-Ok-Taken c =
     let a = c.args in
     let same = c.if-job-ne-JOB_WORDS.false in
-    let told = c.in-Taken.ensures in
-    let r : Result Arrived Refusal = (Ok (Taken c.in-Taken.after)) in
+    let r : Result Arrived Refusal = (Ok (Taken c.in-Ok-Taken.after)) in
+    let e : r ≡ arrived c.job_of.result a.points.now a.heard.now a.store.now a.message.now a.minute = sym (ap Ok c.in-Ok-Taken.field-0-is) ∙ c.in-Ok-Taken.ensures.outcome in
     record {
-      number = number-is a.job.now a.points.now a.heard.now a.store.now a.message.now a.minute same _ c.job_of.ensures r told.outcome;
-      heard = heard-is a.job.now a.points.now a.heard.now a.store.now a.message.now a.minute same _ c.job_of.ensures r told.outcome;
-      kept = kept-is a.job.now a.points.now a.heard.now a.store.now a.message.now a.minute same _ c.job_of.ensures _ told.kept;
-      already = already-is a.job.now a.points.now a.heard.now a.store.now a.message.now a.minute same _ c.job_of.ensures r told.outcome a.already.now;
+      number = number-is a.job.now a.points.now a.heard.now a.store.now a.message.now a.minute same _ c.job_of.ensures r e;
+      heard = heard-is a.job.now a.points.now a.heard.now a.store.now a.message.now a.minute same _ c.job_of.ensures r e;
+      kept = kept-is a.job.now a.points.now a.heard.now a.store.now a.message.now a.minute same _ c.job_of.ensures _ c.in-Ok-Taken.ensures.kept;
+      already = already-is a.job.now a.points.now a.heard.now a.store.now a.message.now a.minute same _ c.job_of.ensures r e a.already.now;
     }
 
 pub returns-in-Err : goal.returns-in-Err
@@ -76,11 +76,11 @@ unfolding already_after
 returns-in-Err c =
     let a = c.args in
     let same = c.if-job-ne-JOB_WORDS.false in
-    let told = c.in-Err.ensures in
     let r : Result Arrived Refusal = (Err c.in-Err.refusal) in
+    let e : r ≡ arrived c.job_of.result a.points.now a.heard.now a.store.now a.message.now a.minute = c.in-Err.ensures.outcome in
     record {
-      number = c.number.ensures ∙ number-is a.job.now a.points.now a.heard.now a.store.now a.message.now a.minute same _ c.job_of.ensures r told.outcome;
-      heard = heard-is a.job.now a.points.now a.heard.now a.store.now a.message.now a.minute same _ c.job_of.ensures r told.outcome;
-      kept = kept-is a.job.now a.points.now a.heard.now a.store.now a.message.now a.minute same _ c.job_of.ensures _ told.kept;
-      already = already-is a.job.now a.points.now a.heard.now a.store.now a.message.now a.minute same _ c.job_of.ensures r told.outcome a.already.now;
+      number = c.number-in-Err.ensures ∙ number-is a.job.now a.points.now a.heard.now a.store.now a.message.now a.minute same _ c.job_of.ensures r e;
+      heard = heard-is a.job.now a.points.now a.heard.now a.store.now a.message.now a.minute same _ c.job_of.ensures r e;
+      kept = kept-is a.job.now a.points.now a.heard.now a.store.now a.message.now a.minute same _ c.job_of.ensures _ c.in-Err.ensures.kept;
+      already = already-is a.job.now a.points.now a.heard.now a.store.now a.message.now a.minute same _ c.job_of.ensures r e a.already.now;
     }

@@ -3,9 +3,8 @@ use mathlib.Core.Path.{◌≡◌, sym, ap, ◌∙◌}
 use mathlib.Core.Bool.{false, ◌||◌}
 use mathlib.Core.List.{List, [], ◌∷◌}
 use Prim.Native.Nat.{ℕ}
-use lib.Dec.{lit<}
+use native.Mathlib.Omega.{arith}
 use lib.ListN.{length}
-use borrow.Author.Rules.{below_length, Below-set}
 use Rattle.algebra.proofs.Tests.{or_left, or_right, equal}
 use Rattle.std.specs.Prelude.{Result, Ok, Err}
 use Rattle.refusal.specs.declared.Refusal.{Refusal}
@@ -16,9 +15,8 @@ use Rattle.plan.specs.Planning.{plan_tests, planned, told, plan_values}
 use Rattle.plan.proofs.Outcomes.{plan_told}
 use Rattle.plan.specs.Words.{job_of}
 use Rattle.mukerihe_bank.specs.Bank.{counted}
-use Rattle.mukerihe_bank.proofs.Outcomes.{unmoved, well_counted, miscounted_either, or_was, told_values, set_all_lem}
+use Rattle.mukerihe_bank.proofs.Outcomes.{unmoved, well_counted, miscounted_either, or_was, told_values}
 use Rattle.mukerihe_bank.proofs.mukerihe_plan.Goals as goal
-use Rattle.mukerihe_bank.proofs.mukerihe_plan.Goals.{In-Ok}
 
 pub returns-then-job-values : goal.returns-then-job-values
 returns-then-job-values c =
@@ -33,22 +31,7 @@ counts words values e =
     (equal _ _ (or_left job room e), equal _ _ (or_right job room e))
 
 pub job_of-requires : goal.job_of-requires
-job_of-requires c = (counts c.args.job.now c.args.values.now c.if-job-values.false).0
-
-pub bounds-values-0 : goal.bounds-values-0
-bounds-values-0 c = search (tt, lit<, below_length, Below-set, (counts c.args.job.now c.args.values.now c.if-job-values.false).1) depth 8
-
-pub bounds-values-1 : goal.bounds-values-1
-bounds-values-1 c = search (tt, lit<, below_length, Below-set, (counts c.args.job.now c.args.values.now c.if-job-values.false).1) depth 8
-
-pub bounds-values-2 : goal.bounds-values-2
-bounds-values-2 c = search (tt, lit<, below_length, Below-set, (counts c.args.job.now c.args.values.now c.if-job-values.false).1) depth 8
-
-pub bounds-values-3 : goal.bounds-values-3
-bounds-values-3 c = search (tt, lit<, below_length, Below-set, (counts c.args.job.now c.args.values.now c.if-job-values.false).1) depth 8
-
-pub bounds-values-4 : goal.bounds-values-4
-bounds-values-4 c = search (tt, lit<, below_length, Below-set, (counts c.args.job.now c.args.values.now c.if-job-values.false).1) depth 8
+job_of-requires c = let n = counts c.args.job.now c.args.values.now c.if-job-values.false in omega (arith, n.0)
 
 -- what is told and left, whichever outcome it is, where the counts are right
 outcome-is : (words points was : List ℕ) → length words ≡ 13 → length was ≡ 5 → (job : Job) → job ≡ job_of words
@@ -65,7 +48,7 @@ returns-in-Err c =
     let a = c.args in
     let n = counts a.job.now a.values.now c.if-job-values.false in
     let o = outcome-is a.job.now a.points.now a.values.now n.0 n.1 c.job_of.result c.job_of.ensures (Err c.in-Err.refusal) c.in-Err.ensures in
-    record { number = c.number.ensures ∙ o.0; values = o.1 }
+    record { number = c.number-in-Err.ensures ∙ o.0; values = o.1 }
 
 pub returns-in-Ok : goal.returns-in-Ok
 returns-in-Ok c =
@@ -74,4 +57,4 @@ returns-in-Ok c =
     let plan = c.in-Ok.plan in
     let o = outcome-is a.job.now a.points.now a.values.now n.0 n.1 c.job_of.result c.job_of.ensures (Ok plan) c.in-Ok.ensures in
     let values : ℕ → List ℕ = λ n. n ∷ plan.needed ∷ plan.rows ∷ plan.inner ∷ plan.columns ∷ [] in
-    record { number = o.0; values = set_all_lem (values c.from.result) a.values.now n.1 ∙ ap values c.from.ensures ∙ o.1 }
+    record { number = o.0; values = c.copy_from_slice.ensures.after ∙ ap values c.from.ensures ∙ o.1 }

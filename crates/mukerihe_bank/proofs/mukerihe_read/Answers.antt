@@ -1,56 +1,23 @@
 -- `mukerihe_bank::mukerihe_read` meets its contract.
 use mathlib.Core.Path.{◌≡◌, sym, ap, ◌∙◌}
-use mathlib.Core.List.{List, [], ◌∷◌}
+use mathlib.Core.List.{List}
 use Prim.Native.Nat.{ℕ}
-use lib.Dec.{lit<}
 use lib.ListN.{length}
-use borrow.Author.Rules.{below_length, Below-set}
 use Rattle.std.specs.Prelude.{Result, Ok, Err}
 use Rattle.refusal.specs.declared.Refusal.{Refusal}
 use Rattle.refusal.specs.Chain.{first, unless_refused}
 use Rattle.message_header.specs.Header.{header_of, fields}
 use Rattle.message_header.specs.declared.Header.{Header}
-use Rattle.message.specs.Format.{read_tests, read_as, read_into, told}
+use Rattle.message.specs.Format.{read_tests, read_as, told}
 use Rattle.message.proofs.Outcomes.{read_told}
-use Rattle.mukerihe_bank.specs.Bank.{counted, if_counted}
-use Rattle.mukerihe_bank.proofs.Outcomes.{unmoved, miscounted, kept, well_counted, made, or_was, told_values, set_all_lem}
+use Rattle.mukerihe_bank.specs.Bank.{counted}
+use Rattle.mukerihe_bank.proofs.Outcomes.{unmoved, miscounted, kept, well_counted, made, or_was, told_values}
 use Rattle.mukerihe_bank.proofs.mukerihe_read.Goals as goal
-use Rattle.mukerihe_bank.proofs.mukerihe_read.Goals.{In-Ok}
 
 pub returns-then-fields-ne-FIELD_WORDS : goal.returns-then-fields-ne-FIELD_WORDS
 returns-then-fields-ne-FIELD_WORDS c =
     let words = c.args.fields.now in
     let told = miscounted 6 words c.if-fields-ne-FIELD_WORDS.true _ in record { number = c.number.ensures ∙ told; elements = kept 6 words c.if-fields-ne-FIELD_WORDS.true _ _; fields = unmoved _ _ _ (sym told) }
-
--- the fields as they were, which are six, and those that are written over them
-abbrev was : In-Ok → List ℕ
-was c = c.args.fields.now
-
-six : (c : In-Ok) → length (was c) ≡ 6
-six c = c.if-fields-ne-FIELD_WORDS.false
-
-abbrev values : In-Ok → List ℕ
-values c =
-    let h = c.in-Ok.h in
-    h.kind ∷ h.modulus ∷ h.host ∷ h.rows ∷ h.columns ∷ h.number ∷ []
-
-pub bounds-fields-0 : goal.bounds-fields-0
-bounds-fields-0 c = search (tt, lit<, below_length, Below-set, six c) depth 8
-
-pub bounds-fields-1 : goal.bounds-fields-1
-bounds-fields-1 c = search (tt, lit<, below_length, Below-set, six c) depth 8
-
-pub bounds-fields-2 : goal.bounds-fields-2
-bounds-fields-2 c = search (tt, lit<, below_length, Below-set, six c) depth 8
-
-pub bounds-fields-3 : goal.bounds-fields-3
-bounds-fields-3 c = search (tt, lit<, below_length, Below-set, six c) depth 8
-
-pub bounds-fields-4 : goal.bounds-fields-4
-bounds-fields-4 c = search (tt, lit<, below_length, Below-set, six c) depth 8
-
-pub bounds-fields-5 : goal.bounds-fields-5
-bounds-fields-5 c = search (tt, lit<, below_length, Below-set, six c) depth 8
 
 -- what is told and left, whichever outcome it is, where the fields are six
 outcome-is : (message : List ℕ) (room : ℕ) (was : List ℕ) → length was ≡ 6 → (r : Result Header Refusal) → r ≡ read_as message room
@@ -65,7 +32,7 @@ returns-in-Err c =
     let a = c.args in
     let same = c.if-fields-ne-FIELD_WORDS.false in
     let o = outcome-is a.message.now (length a.elements.now) a.fields.now same (Err c.in-Err.refusal) c.in-Err.ensures.outcome in
-    record { number = c.number.ensures ∙ o.0; elements = c.in-Err.ensures.elements ∙ sym (made 6 a.fields.now same _ _); fields = o.1 }
+    record { number = c.number-in-Err.ensures ∙ o.0; elements = c.in-Err.ensures.elements ∙ sym (made 6 a.fields.now same _ _); fields = o.1 }
 
 pub returns-in-Ok : goal.returns-in-Ok
 unfolding fields
@@ -77,5 +44,5 @@ returns-in-Ok c =
     record {
       number = o.0;
       elements = c.in-Ok.ensures.elements ∙ sym (made 6 a.fields.now same _ _);
-      fields = set_all_lem (h.kind ∷ h.modulus ∷ h.host ∷ h.rows ∷ h.columns ∷ h.number ∷ []) a.fields.now same ∙ o.1;
+      fields = c.copy_from_slice.ensures.after ∙ o.1;
     }

@@ -17,8 +17,8 @@ returns c =
     let is = c.job_of.ensures in
     let a = c.args in
     let number =
-        c.number_of.ensures
-        ∙ told (share_tests a.matrix c.job_of.result a.points.now a.host a.elements.now a.masks.now (length a.out.now)) (share_numbered _ _ _ _ _ _ _) shared.number in
+    c.number_of.ensures
+    ∙ told (share_tests a.matrix c.job_of.result a.points.now a.host a.elements.now a.masks.now (length a.out.now)) (share_numbered _ _ _ _ _ _ _) shared.number in
     let all = passed_on 13 a.job.now c.if-job-ne-JOB_WORDS.false _ _ _
     (number ∙ ap (λ (x : Job). first (share_tests a.matrix x a.points.now a.host a.elements.now a.masks.now (length a.out.now))) is)
     (shared.block ∙ ap (λ (x : Job). share_after a.matrix x a.points.now a.host a.elements.now a.masks.now a.out.now) is) in
