@@ -195,7 +195,8 @@ fn hear(t: Trial<'_>, set: u64, index: usize, heard: u64, store: &mut [u32]) -> 
     }
     let start = index * MESSAGE;
     let end = start + MESSAGE;
-    arrive_thrice(t.points, heard, store, &t.messages[start..end])
+    let messages = t.messages;
+    arrive_thrice(t.points, heard, store, &messages[start..end])
 }
 
 // Lets the messages of a set of hosts arrive, in an order; tells the hosts heard.
