@@ -6,6 +6,7 @@ ghost use Rattle.std.specs.Prelude.{◌≡◌, length};
 
 use program_lines::{STDIN_FILENO, say, say_fault, say_front, say_number, say_refused};
 use text_numbers::past_mark;
+use words::room;
 
 // A text must be shorter than this: room for the words of the largest side, as `od` writes them, and some more.
 const MOST_TEXT: usize = 786432;
@@ -15,13 +16,6 @@ const MOST_NUMBERS: usize = 393216;
 
 // The masks of the largest side: 16, each of 4096 elements.
 const MOST_ELEMENTS: usize = 65536;
-
-// Room for as many numbers as the type says. Lending it needs their number alone.
-fn room<T: Copy, const N: usize>(zero: T) -> [T; N]
-    ensures { N ≡ length result }
-{
-    [zero; N]
-}
 
 // Reads the numbers of a text, and returns how many; prints what is wrong with it, and then returns 0.
 fn read(text: &[u8], numbers: &mut [u32]) -> usize

@@ -9,7 +9,8 @@ use message_header::Header;
 use plan::{Plan, job_of};
 use refusal::Refusal;
 use share::Matrix;
-use test_io::{STDOUT_FILENO, filled, put_number, put_outcome, put_words, room};
+use test_io::{STDOUT_FILENO, filled, put_number, put_outcome, put_words};
+use words::room;
 
 // Where the lists of a case end, one after another.
 #[derive(Clone, Copy)]
@@ -146,15 +147,10 @@ fn run_call(
     match call {
         1 => put_outcome(run_share(Matrix::A, head, points, xs, ys, out)),
         2 => put_outcome(run_share(Matrix::B, head, points, xs, ys, out)),
-        3 => put_outcome(product::product(
-            head[1], head[2], head[3], head[4], xs, ys, out,
-        )),
+        3 => put_outcome(product::product(head[1], head[2], head[3], head[4], xs, ys, out)),
         5 => put_read(message::read_message(message, out)),
         6 => put_signed(field_signed::signed_reading(head[1], head[2])),
-        7 => put_element(field_signed::element_of(
-            head[1],
-            signed_value(head[2], head[3]),
-        )),
+        7 => put_element(field_signed::element_of(head[1], signed_value(head[2], head[3]))),
         8 => put_drawn(masks::draw_masks(head[1], xs, out)),
         10 => put_planned(plan::plan_job(job_of(&head[1..]), points)),
         _ => return false,

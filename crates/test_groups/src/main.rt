@@ -111,12 +111,7 @@ struct Secrets<'a> {
 }
 
 // Writes the answer's message of a host to the front of a buffer.
-fn answer(
-    host: u32,
-    points: &[u32],
-    s: Secrets<'_>,
-    message: &mut [u8],
-) -> Result<(), Refusal> {
+fn answer(host: u32, points: &[u32], s: Secrets<'_>, message: &mut [u8]) -> Result<(), Refusal> {
     let mut left = [0u32; BLOCK];
     let mut right = [0u32; BLOCK];
     share::share(Matrix::A, job(), points, host, s.a, s.masks_a, &mut left)?;
@@ -162,10 +157,7 @@ fn arrive_thrice(points: &[u32], heard: u64, store: &mut [u32], message: &[u8]) 
     match arrival::arrive(job(), points, heard, store, message, MINUTE) {
         Ok(Arrived::Taken(after))
             if is_in_already(points, after, store, message)
-                && is_refused(points, after, store, message) =>
-        {
-            after
-        }
+                && is_refused(points, after, store, message) => { after }
         _ => 0,
     }
 }

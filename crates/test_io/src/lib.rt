@@ -5,6 +5,7 @@ ghost use Rattle.std.specs.Prelude.{◌≡◌, ◌≤◌, length, take, drop};
 ghost use Rattle.io.specs.Counts.{IsPrefixLen};
 
 use refusal::Refusal;
+use words::room;
 
 // The file descriptor of standard input.
 pub const STDIN_FILENO: i32 = 0;
@@ -21,13 +22,6 @@ const MOST_WRITTEN: usize = 16384;
 
 // What stands in an output before a call.
 pub const FILLING: u32 = 0xA5A5A5A5;
-
-// Room for as many elements as the type says, all one value. Lending it needs their number alone.
-pub fn room<T: Copy, const N: usize>(value: T) -> [T; N]
-    ensures { N ≡ length result }
-{
-    [value; N]
-}
 
 // Reads that many bytes to the front of the buffer, or as many as it has room for and the input has; tells how many. Past the
 // count that is asked for the buffer stays as it was; where the input ends before, nothing is said of the bytes up to there.

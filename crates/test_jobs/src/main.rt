@@ -8,7 +8,7 @@ ghost use Rattle.std.specs.Prelude.{◌≡◌, length};
 use arrival::Arrived;
 use plan::job_of;
 use refusal::Refusal;
-use test_io::room;
+use words::room;
 
 // The largest case: its points, the elements of the store and of a table, the bytes of a message.
 const MOST_POINTS: usize = 128;
@@ -66,7 +66,13 @@ fn run_decoding(head: [u32; HEAD_WORDS], points: &[u32], store: &[u32]) -> bool 
     }
     let mut table = room::<u32, MOST_TABLE>(test_io::FILLING);
     let heard = heard_of(head[14], head[15]);
-    let outcome = decode::decode(job_of(&head[1..]), points, heard, store, &mut table[..count]);
+    let outcome = decode::decode(
+        job_of(&head[1..]),
+        points,
+        heard,
+        store,
+        &mut table[..count],
+    );
     test_io::put_outcome(outcome);
     test_io::put_output(&table[..count]);
     true

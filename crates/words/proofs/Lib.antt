@@ -1,2 +1,0 @@
--- What fits a word.
-pub mod Fits
