@@ -3,7 +3,8 @@
 
     tools/places.py [--list] [FOLDER]    FOLDER is a checkout; without it, this one. --list prints each place
 
-A comment `// Stays: ..` beside a place says why it is kept: places that have one in the five lines above, or in them, are counted apart.
+A comment `// Stays: ..` says why a place is kept, above its function or type, or within the five lines above the place itself: such
+places are counted apart.
 """
 import re
 import sys
@@ -38,10 +39,9 @@ class Item:
         self.kind, self.name = ITEM.match(self.text)["kind"], ITEM.match(self.text)["name"].split("(")[0].split("<")[0].split(":")[0].strip()
 
     def stays(self, at=0):
-        """Why a place of it is kept, beside the place; `at` is the place in its text."""
-        before = self.text[:at].rsplit("\n", 1)[0].split("\n")[-5:] if at else [self.above]
-        line = self.text[at:].split("\n", 1)[0]
-        return any("// Stays:" in part for part in [*before, line] + ([] if at else self.text.split("\n")))
+        """Why a place of it is kept, in the comment above it or, of a place in it, within the five lines above that."""
+        before = self.text[:at].split("\n")[-6:] if at else []
+        return any("// Stays:" in part for part in [self.above, *before])
 
 
 def closing(text, at):

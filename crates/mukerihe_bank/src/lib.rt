@@ -57,6 +57,7 @@ fn header_of(words: &[u32]) -> Header
 
 // Plans a job: the 5 values are then the number of its layout, K, and rows, inner and columns of its blocks; or the job is refused
 // by number and the values stay as they were.
+// Stays: C's interface.
 #[unsafe(no_mangle)]
 pub extern "C" fn mukerihe_plan(job: &[u32], points: &[u32], values: &mut [u32]) -> u32
     ensures number { let words = job.now in
@@ -84,6 +85,7 @@ pub extern "C" fn mukerihe_plan(job: &[u32], points: &[u32], values: &mut [u32])
 }
 
 // Draws masks from random words: used is then how many were used, or the call is refused by number and used stays as it was.
+// Stays: C's interface.
 #[unsafe(no_mangle)]
 pub extern "C" fn mukerihe_draw(
     modulus: u32,
@@ -107,6 +109,7 @@ pub extern "C" fn mukerihe_draw(
 }
 
 // A host's share of a matrix.
+// Stays: it tells what C is told, for both calls below.
 fn share_of(
     matrix: Matrix,
     job: &[u32],
@@ -130,6 +133,7 @@ fn share_of(
 }
 
 // A host's share of A.
+// Stays: C's interface.
 #[unsafe(no_mangle)]
 pub extern "C" fn mukerihe_share_a(
     job: &[u32],
@@ -150,6 +154,7 @@ pub extern "C" fn mukerihe_share_a(
 }
 
 // A host's share of B.
+// Stays: C's interface.
 #[unsafe(no_mangle)]
 pub extern "C" fn mukerihe_share_b(
     job: &[u32],
@@ -170,6 +175,7 @@ pub extern "C" fn mukerihe_share_b(
 }
 
 // A product on elements: rows by inner times inner by columns.
+// Stays: C's interface.
 #[unsafe(no_mangle)]
 pub extern "C" fn mukerihe_multiply(
     modulus: u32,
@@ -189,6 +195,7 @@ pub extern "C" fn mukerihe_multiply(
 }
 
 // Writes a message with these 6 fields and elements.
+// Stays: C's interface.
 #[unsafe(no_mangle)]
 pub extern "C" fn mukerihe_write(fields: &[u32], elements: &[u32], out: &mut [u8]) -> u32
     ensures number { let words = fields.now in
@@ -203,6 +210,7 @@ pub extern "C" fn mukerihe_write(fields: &[u32], elements: &[u32], out: &mut [u8
 }
 
 // Reads a message: its elements, and its 6 fields. It is refused by number, and then both stay as they were.
+// Stays: C's interface.
 #[unsafe(no_mangle)]
 pub extern "C" fn mukerihe_read(message: &[u8], elements: &mut [u32], fields: &mut [u32]) -> u32
     ensures number { let room = length elements.old in
@@ -227,6 +235,7 @@ pub extern "C" fn mukerihe_read(message: &[u8], elements: &mut [u32], fields: &m
 
 // Takes an answer's message at a minute: heard is then the hosts heard after it, and already 1 where it was in before, 0 where it is
 // taken. It is refused by number, and then all stays as it was.
+// Stays: C's interface.
 #[unsafe(no_mangle)]
 pub extern "C" fn mukerihe_arrive(
     job: &[u32],
@@ -268,6 +277,7 @@ pub extern "C" fn mukerihe_arrive(
 }
 
 // Decodes the table.
+// Stays: C's interface.
 #[unsafe(no_mangle)]
 pub extern "C" fn mukerihe_decode(
     job: &[u32],
@@ -288,6 +298,7 @@ pub extern "C" fn mukerihe_decode(
 }
 
 // The signed reading of an element: value is then it, or the call is refused by number and value stays as it was.
+// Stays: C's interface.
 #[unsafe(no_mangle)]
 pub extern "C" fn mukerihe_signed(modulus: u32, element: u32, value: &mut i64) -> u32
     ensures number { result ≡ first (signed_tests modulus element) }
@@ -305,6 +316,7 @@ pub extern "C" fn mukerihe_signed(modulus: u32, element: u32, value: &mut i64) -
 
 // The way back: element is then the one whose signed reading is the value, or the call is refused by number and element stays as it
 // was.
+// Stays: C's interface.
 #[unsafe(no_mangle)]
 pub extern "C" fn mukerihe_element(modulus: u32, value: i64, element: &mut u32) -> u32
     ensures number { result ≡ first (element_tests modulus value) }
@@ -321,6 +333,7 @@ pub extern "C" fn mukerihe_element(modulus: u32, value: i64, element: &mut u32) 
 }
 
 // How many bytes a page has; 0 where a size is out of range.
+// Stays: C's interface.
 #[unsafe(no_mangle)]
 pub extern "C" fn mukerihe_page_length(t: u32, r: u32) -> usize
     ensures { result ≡ room_for t r }
@@ -329,6 +342,7 @@ pub extern "C" fn mukerihe_page_length(t: u32, r: u32) -> usize
 }
 
 // Writes a table as a page.
+// Stays: C's interface.
 #[unsafe(no_mangle)]
 pub extern "C" fn mukerihe_page(modulus: u32, t: u32, r: u32, table: &[u32], out: &mut [u8]) -> u32
     ensures number { let room = length out.old in result ≡ first (page_tests modulus t r table.now room) }

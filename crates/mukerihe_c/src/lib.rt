@@ -6,10 +6,9 @@ ghost use Rattle.refusal.specs.Chain.{first, unless_refused};
 ghost use Rattle.mukerihe.specs.Host.{host_tests, host_after};
 ghost use Rattle.mukerihe.specs.Answer.{host_answer, host_answer_tests, host_answer_after};
 
-// Stays: the C interface: a refusal is told as its number, and how many bytes were written by a lent number.
-
 // The product of two shares as bytes: rows by inner times inner by columns. The output then holds it and 0 is returned; or the
 // refusal number is returned, and no byte of the output changes.
+// Stays: C's interface tells a refusal by its number, and how many bytes were written by a lent number.
 #[unsafe(no_mangle)]
 pub extern "C" fn mukerihe_product(
     modulus: u32,
@@ -33,6 +32,7 @@ pub extern "C" fn mukerihe_product(
 
 // A host's whole part: the message of its A share and that of its B share in, the message of its answer out. The answer then stands
 // at the front of the output, and written is how many bytes it has; or the refusal number is returned, and nothing changes.
+// Stays: C's interface tells a refusal by its number, and how many bytes were written by a lent number.
 #[unsafe(no_mangle)]
 pub extern "C" fn mukerihe_answer(a: &[u8], b: &[u8], out: &mut [u8], written: &mut usize) -> u32
     ensures number { result ≡ first (host_answer_tests a.now b.now (length out.old)) }

@@ -1,13 +1,7 @@
 // The plan lister as a program: one line of ten numbers on standard input, the plan or a refusal on standard output.
 #![tactic(auto)]
 
-// The file descriptor of standard input.
-// Stays: a crate that has it would have to be named in crates.txt for it alone.
-const STDIN_FILENO: i32 = 0;
-
-// The file descriptor of standard output.
-// Stays: a crate that has it would have to be named in crates.txt for it alone.
-const STDOUT_FILENO: i32 = 1;
+use program_lines::{STDIN_FILENO, STDOUT_FILENO};
 
 fn main() {
     // A line has at most 60 bytes, so a longer input is seen to be no line.

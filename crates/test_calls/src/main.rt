@@ -7,17 +7,19 @@ ghost use Rattle.std.specs.Prelude.{◌≡◌, ◌≤◌, length};
 
 use message_header::Header;
 use plan::{Plan, job_of};
+use program_lines::STDOUT_FILENO;
 use refusal::Refusal;
 use share::Matrix;
-use test_io::{STDOUT_FILENO, filled, put_number, put_outcome, put_words};
+use test_io::{filled, put_number, put_outcome, put_words};
 use words::room;
 
-// Where the lists of a case end, one after another.
+// A case: its words, whose first is the number of its call, and its lists.
 #[derive(Clone, Copy)]
-struct Ends {
-    points: usize,
-    xs: usize,
-    ys: usize,
+struct Case<'a> {
+    head: [u32; HEAD_WORDS],
+    points: &'a [u32],
+    xs: &'a [u32],
+    ys: &'a [u32],
 }
 
 // What stands in an output of bytes before a call.
@@ -44,19 +46,6 @@ const WORD: u64 = 0x1_0000_0000;
 // The largest number of a word: what is told of a larger one.
 const MOST_TOLD: usize = 0xFFFF_FFFF;
 
-// The ends of lists of these lengths.
-fn ends_of(points: u32, xs: u32, ys: u32) -> Ends
-    ensures { (result.points ≤ result.xs) × (result.xs ≤ result.ys) }
-{
-    let first = points as usize;
-    let second = first + xs as usize;
-    Ends {
-        points: first,
-        xs: second,
-        ys: second + ys as usize,
-    }
-}
-
 // Writes an output of bytes: how many there are up to the last that is not the filling, and these.
 fn put_bytes(out: &[u8])
     requires { length out.now ≤ 400000 }
@@ -82,15 +71,9 @@ fn put_planned(outcome: Result<Plan, Refusal>) {
 }
 
 // Makes a share.
-fn run_share(
-    matrix: Matrix,
-    head: [u32; HEAD_WORDS],
-    points: &[u32],
-    xs: &[u32],
-    masks: &[u32],
-    out: &mut [u32],
-) -> Result<(), Refusal> {
-    share::share(matrix, job_of(&head[1..]), points, head[14], xs, masks, out)
+fn run_share(matrix: Matrix, c: Case<'_>, out: &mut [u32]) -> Result<(), Refusal> {
+    let job = job_of(&c.head[1..]);
+    share::share(matrix, job, c.points, c.head[14], c.xs, c.ys, out)
 }
 
 // Writes what reading a message returns: 0 and the fields, or the refusal's number.
@@ -134,44 +117,32 @@ fn put_drawn(outcome: Result<usize, Refusal>) {
 }
 
 // Makes a call with an output of elements, and writes what it returns; false where there is no such call.
-fn run_call(
-    head: [u32; HEAD_WORDS],
-    points: &[u32],
-    xs: &[u32],
-    ys: &[u32],
-    message: &[u8],
-    out: &mut [u32],
-) -> bool {
+fn run_call(c: Case<'_>, message: &[u8], out: &mut [u32]) -> bool {
+    let head = c.head;
     // Stays: the number of a call is the cases' format, and a table of closures for these calls would be no plainer.
     let call = head[0];
     match call {
-        1 => put_outcome(run_share(Matrix::A, head, points, xs, ys, out)),
-        2 => put_outcome(run_share(Matrix::B, head, points, xs, ys, out)),
-        3 => put_outcome(product::product(head[1], head[2], head[3], head[4], xs, ys, out)),
+        1 => put_outcome(run_share(Matrix::A, c, out)),
+        2 => put_outcome(run_share(Matrix::B, c, out)),
+        3 => put_outcome(product::product(head[1], head[2], head[3], head[4], c.xs, c.ys, out)),
         5 => put_read(message::read_message(message, out)),
         6 => put_signed(field_signed::signed_reading(head[1], head[2])),
         7 => put_element(field_signed::element_of(head[1], signed_value(head[2], head[3]))),
-        8 => put_drawn(masks::draw_masks(head[1], xs, out)),
-        10 => put_planned(plan::plan_job(job_of(&head[1..]), points)),
+        8 => put_drawn(masks::draw_masks(head[1], c.xs, out)),
+        10 => put_planned(plan::plan_job(job_of(&head[1..]), c.points)),
         _ => return false,
     }
     true
 }
 
 // Answers a case with an output of elements; false where there is no such call or its output is too long.
-fn print_call(
-    head: [u32; HEAD_WORDS],
-    points: &[u32],
-    xs: &[u32],
-    ys: &[u32],
-    message: &[u8],
-) -> bool {
-    let count = head[19] as usize;
+fn print_call(c: Case<'_>, message: &[u8]) -> bool {
+    let count = c.head[19] as usize;
     if MOST_ELEMENTS < count {
         return false;
     }
     let mut out = room::<u32, MOST_ELEMENTS>(test_io::FILLING);
-    if !run_call(head, points, xs, ys, message, &mut out[..count]) {
+    if !run_call(c, message, &mut out[..count]) {
         return false;
     }
     test_io::put_output(&out[..count]);
@@ -230,41 +201,45 @@ fn print_answer(head: [u32; HEAD_WORDS], messages: &[u8]) -> bool {
 }
 
 // Reads the message of a case and runs it; false where it is over the limits, or the input ends in it.
-fn run_message(head: [u32; HEAD_WORDS], points: &[u32], xs: &[u32], ys: &[u32]) -> bool {
-    let count = head[18] as usize;
+fn run_message(c: Case<'_>) -> bool {
+    let count = c.head[18] as usize;
     let mut message = room::<u8, MOST_BYTES>(0);
     let n = test_io::read_bytes(count, &mut message);
     if n < count {
         return false;
     }
     // Stays: as in `run_call`.
-    let call = head[0];
+    let call = c.head[0];
     match call {
-        4 => print_write(head, xs),
-        9 => print_page(head, xs),
-        11 => print_answer(head, &message[..n]),
-        _ => print_call(head, points, xs, ys, &message[..n]),
+        4 => print_write(c.head, c.xs),
+        9 => print_page(c.head, c.xs),
+        11 => print_answer(c.head, &message[..n]),
+        _ => print_call(c, &message[..n]),
     }
 }
 
-// Answers a case with these lists; false where it is over the limits, or the input ended in it.
-fn run_lists(head: [u32; HEAD_WORDS], lists: &[u32]) -> bool {
-    let ends = ends_of(head[15], head[16], head[17]);
-    let points = ends.points;
-    let xs = ends.xs;
-    let ys = ends.ys;
-    if lists.len() < ys {
-        return false;
-    }
-    run_message(head, &lists[..points], &lists[points..xs], &lists[xs..ys])
+// The case of these words and the lists that they tell the lengths of, one after another; none where the lists are shorter.
+fn case_of<'a>(head: [u32; HEAD_WORDS], lists: &'a [u32]) -> Option<Case<'a>> {
+    let (points, rest) = lists.split_at_checked(head[15] as usize)?;
+    let (xs, rest) = rest.split_at_checked(head[16] as usize)?;
+    let (ys, _) = rest.split_at_checked(head[17] as usize)?;
+    Some(Case {
+        head,
+        points,
+        xs,
+        ys,
+    })
 }
 
 // Reads the lists of a case and runs it; false where it is over the limits, or the input ends in it.
 fn run_case(head: [u32; HEAD_WORDS]) -> bool {
-    let ends = ends_of(head[15], head[16], head[17]);
     let mut lists = room::<u32, MOST_WORDS>(0);
-    let n = test_io::read_words(ends.ys, &mut lists);
-    run_lists(head, &lists[..n])
+    let count = head[15] as usize + head[16] as usize + head[17] as usize;
+    let n = test_io::read_words(count, &mut lists);
+    match case_of(head, &lists[..n]) {
+        Some(c) => run_message(c),
+        None => false,
+    }
 }
 
 // Answers one case after another, until one is over the limits or the input is at its end.

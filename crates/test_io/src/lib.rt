@@ -4,14 +4,9 @@
 ghost use Rattle.std.specs.Prelude.{◌≡◌, ◌≤◌, length, take, drop};
 ghost use Rattle.io.specs.Counts.{IsPrefixLen};
 
+use program_lines::{STDIN_FILENO, STDOUT_FILENO};
 use refusal::Refusal;
 use words::room;
-
-// The file descriptor of standard input.
-pub const STDIN_FILENO: i32 = 0;
-
-// The file descriptor of standard output.
-pub const STDOUT_FILENO: i32 = 1;
 
 // How many words are read at once, at most, and their bytes; and how many are written.
 const MOST_READ: usize = 32896;

@@ -25,6 +25,13 @@ const HEAD_WORDS: usize = 22;
 // The program ends, however long its input is.
 const MOST_CASES: u32 = 1000000;
 
+// A case: its words, whose first is the number of its call, and its points.
+#[derive(Clone, Copy)]
+struct Case<'a> {
+    head: [u32; HEAD_WORDS],
+    points: &'a [u32],
+}
+
 // The hosts heard, of two words.
 fn heard_of(high: u32, low: u32) -> u64 {
     high as u64 * 0x1_0000_0000 + low as u64
@@ -44,7 +51,8 @@ fn put_arrived(outcome: Result<Arrived, Refusal>, before: u64) {
 }
 
 // Reads a message and lets it arrive; false where the input ends in it, or it is too long.
-fn run_arrival(head: [u32; HEAD_WORDS], points: &[u32], store: &mut [u32]) -> bool {
+fn run_arrival(c: Case<'_>, store: &mut [u32]) -> bool {
+    let head = c.head;
     let count = head[19] as usize;
     let mut message = room::<u8, MOST_BYTES>(0);
     let n = test_io::read_bytes(count, &mut message);
@@ -53,38 +61,34 @@ fn run_arrival(head: [u32; HEAD_WORDS], points: &[u32], store: &mut [u32]) -> bo
     }
     let job = job_of(&head[1..]);
     let heard = heard_of(head[14], head[15]);
-    let outcome = arrival::arrive(job, points, heard, store, &message[..n], head[20]);
+    let outcome = arrival::arrive(job, c.points, heard, store, &message[..n], head[20]);
     put_arrived(outcome, heard);
     true
 }
 
 // Decodes a table; false where it is too long.
-fn run_decoding(head: [u32; HEAD_WORDS], points: &[u32], store: &[u32]) -> bool {
+fn run_decoding(c: Case<'_>, store: &[u32]) -> bool {
+    let head = c.head;
     let count = head[21] as usize;
     if MOST_TABLE < count {
         return false;
     }
     let mut table = room::<u32, MOST_TABLE>(test_io::FILLING);
     let heard = heard_of(head[14], head[15]);
-    let outcome = decode::decode(
-        job_of(&head[1..]),
-        points,
-        heard,
-        store,
-        &mut table[..count],
-    );
+    let job = job_of(&head[1..]);
+    let outcome = decode::decode(job, c.points, heard, store, &mut table[..count]);
     test_io::put_outcome(outcome);
     test_io::put_output(&table[..count]);
     true
 }
 
 // Makes the call of a case on the store; false where there is no such call, or it is over the limits.
-fn run_call(head: [u32; HEAD_WORDS], points: &[u32], store: &mut [u32]) -> bool {
+fn run_call(c: Case<'_>, store: &mut [u32]) -> bool {
     // Stays: the number of a call is the cases' format, and closures for three calls would be no plainer.
-    let call = head[0];
+    let call = c.head[0];
     match call {
-        1 => run_arrival(head, points, store),
-        2 => run_decoding(head, points, store),
+        1 => run_arrival(c, store),
+        2 => run_decoding(c, store),
         3 => {
             test_io::put_words(store);
             true
@@ -103,11 +107,11 @@ fn renew_store(renewed: u32, store: &mut [u32]) -> bool {
 }
 
 // Makes the call of a case on its store; false where the input ends in it, or it is over the limits.
-fn run_store(head: [u32; HEAD_WORDS], points: &[u32], store: &mut [u32]) -> bool {
-    if !renew_store(head[18], store) {
+fn run_store(c: Case<'_>, store: &mut [u32]) -> bool {
+    if !renew_store(c.head[18], store) {
         return false;
     }
-    run_call(head, points, store)
+    run_call(c, store)
 }
 
 // Reads the points of a case and makes its call on the front of the store; false where the input ends in it, or it is over the
@@ -120,7 +124,11 @@ fn run_case(head: [u32; HEAD_WORDS], store: &mut [u32]) -> bool {
     if p < count || store.len() < size {
         return false;
     }
-    run_store(head, &points[..p], &mut store[..size])
+    let c = Case {
+        head,
+        points: &points[..p],
+    };
+    run_store(c, &mut store[..size])
 }
 
 // Answers one case after another, until one is over the limits or the input is at its end.

@@ -5,13 +5,7 @@
 
 ghost use Rattle.std.specs.Prelude.{◌<◌, length};
 
-// The file descriptor of standard input.
-// Stays: a crate that has it would have to be named in crates.txt for it alone.
-const STDIN_FILENO: i32 = 0;
-
-// The file descriptor of standard output.
-// Stays: a crate that has it would have to be named in crates.txt for it alone.
-const STDOUT_FILENO: i32 = 1;
+use program_lines::{STDIN_FILENO, STDOUT_FILENO};
 
 // Prints the listing of the first case, and returns the cases behind it; none where no case is whole.
 fn run_case(cases: &[u8]) -> &[u8]
