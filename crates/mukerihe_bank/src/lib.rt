@@ -21,7 +21,7 @@ ghost use Rattle.mukerihe_bank.specs.Bank.{header_of, counted, if_counted, alrea
 
 use arrival::Arrived;
 use message_header::Header;
-use plan::{JOB_WORDS, job_of};
+use plan::{JOB_WORDS, Job};
 use refusal::Refusal;
 use share::Matrix;
 
@@ -38,6 +38,14 @@ fn number_of(outcome: Result<(), Refusal>) -> u32
         Ok(()) => 0,
         Err(refusal) => refusal.number(),
     }
+}
+
+// The job of 13 words.
+fn job_of(words: &[u32]) -> Job
+    requires { length words.now ≡ 13 }
+    ensures { result ≡ job_of words.now }
+{
+    plan::job_of(words.first_chunk().unwrap())
 }
 
 // The header of 6 words.

@@ -1,7 +1,7 @@
 // Planning: a job's numbers and points are tested, and the layout and the number of answers needed are worked out.
 #![tactic(auto)]
 
-ghost use Rattle.std.specs.Prelude.{◌≡◌, ◌≤◌, length};
+ghost use Rattle.std.specs.Prelude.{◌≡◌};
 ghost use Rattle.refusal.specs.Chain.{first, answered};
 ghost use Rattle.plan.specs.Words.{job_of};
 ghost use Rattle.plan.specs.Planning.{
@@ -45,8 +45,7 @@ pub const JOB_WORDS: usize = 13;
 
 // The job of its words, in the order of its fields.
 #[tactic(auto, unfolding(crate::specs::Words::job_of))]
-pub fn job_of(words: &[u32]) -> Job
-    requires { 13 ≤ length words.now }
+pub fn job_of(words: &[u32; JOB_WORDS]) -> Job
     ensures { result ≡ job_of words.now }
 {
     Job {

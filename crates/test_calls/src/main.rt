@@ -6,7 +6,7 @@
 ghost use Rattle.std.specs.Prelude.{◌≡◌, ◌≤◌, length};
 
 use message_header::Header;
-use plan::{Plan, job_of};
+use plan::{Job, Plan, job_of};
 use program_lines::STDOUT_FILENO;
 use refusal::Refusal;
 use share::Matrix;
@@ -70,9 +70,14 @@ fn put_planned(outcome: Result<Plan, Refusal>) {
     }
 }
 
+// The job of a case.
+fn job_in(c: Case<'_>) -> Job {
+    job_of(c.head[1..].first_chunk().unwrap())
+}
+
 // Makes a share.
 fn run_share(matrix: Matrix, c: Case<'_>, out: &mut [u32]) -> Result<(), Refusal> {
-    let job = job_of(&c.head[1..]);
+    let job = job_in(c);
     share::share(matrix, job, c.points, c.head[14], c.xs, c.ys, out)
 }
 
@@ -129,7 +134,7 @@ fn run_call(c: Case<'_>, message: &[u8], out: &mut [u32]) -> bool {
         6 => put_signed(field_signed::signed_reading(head[1], head[2])),
         7 => put_element(field_signed::element_of(head[1], signed_value(head[2], head[3]))),
         8 => put_drawn(masks::draw_masks(head[1], c.xs, out)),
-        10 => put_planned(plan::plan_job(job_of(&head[1..]), c.points)),
+        10 => put_planned(plan::plan_job(job_in(c), c.points)),
         _ => return false,
     }
     true

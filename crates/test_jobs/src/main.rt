@@ -59,7 +59,7 @@ fn run_arrival(c: Case<'_>, store: &mut [u32]) -> bool {
     if n < count {
         return false;
     }
-    let job = job_of(&head[1..]);
+    let job = job_of(head[1..].first_chunk().unwrap());
     let heard = heard_of(head[14], head[15]);
     let outcome = arrival::arrive(job, c.points, heard, store, &message[..n], head[20]);
     put_arrived(outcome, heard);
@@ -75,7 +75,7 @@ fn run_decoding(c: Case<'_>, store: &[u32]) -> bool {
     }
     let mut table = room::<u32, MOST_TABLE>(test_io::FILLING);
     let heard = heard_of(head[14], head[15]);
-    let job = job_of(&head[1..]);
+    let job = job_of(head[1..].first_chunk().unwrap());
     let outcome = decode::decode(job, c.points, heard, store, &mut table[..count]);
     test_io::put_outcome(outcome);
     test_io::put_output(&table[..count]);

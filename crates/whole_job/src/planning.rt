@@ -2,14 +2,11 @@
 use crate::blocks::{ELEMENT_ROOM, answer_size, area, block_size, total};
 use crate::sections::{self, Section, Sections};
 use lister::LISTING_ROOM;
-use plan::{Job, Plan};
+use plan::{JOB_WORDS, Job, Plan};
 use program_lines::{say, say_front, say_number, say_refused};
 use refusal::Refusal;
 use share::Matrix;
 use words::room;
-
-// How many numbers the section JOB has.
-const JOB_NUMBERS: usize = 13;
 
 // A planned job, and the sections of its text.
 #[derive(Clone, Copy)]
@@ -21,40 +18,11 @@ pub(crate) struct Whole<'a> {
 
 // The job of the section JOB; where its numbers are too few or too many, their count is printed.
 fn job_of(section: Section) -> Option<Job> {
-    let &[
-        modulus,
-        t,
-        s,
-        r,
-        m,
-        p,
-        n,
-        xa,
-        xb,
-        hosts,
-        number,
-        opening,
-        closing,
-    ] = section.numbers
-    else {
-        section.say_count(JOB_NUMBERS);
+    let Some((words, [])) = section.numbers.split_first_chunk() else {
+        section.say_count(JOB_WORDS);
         return None;
     };
-    Some(Job {
-        modulus,
-        t,
-        s,
-        r,
-        m,
-        p,
-        n,
-        xa,
-        xb,
-        hosts,
-        number,
-        opening,
-        closing,
-    })
+    Some(plan::job_of(words))
 }
 
 // Prints the number of a refusal; where points are too few or too many, the count of their section.
