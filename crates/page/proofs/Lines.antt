@@ -1,12 +1,13 @@
 -- The lines of a page by the numbers that stand in them.
 --
+--   gap_later    what stands before every panel but the first
 --   line_is      a line of given numbers
 --   heading_is   a heading: the first of six column numbers
 --   row_is       a row's line: a part of the table
 --   across_fits  a panel's columns are columns of the table
-use mathlib.Core.Path.{◌≡◌, ap, ◌∙◌}
+use mathlib.Core.Path.{◌≡◌, refl, ap, ◌∙◌}
 use mathlib.Core.List.{List, ◌++◌}
-use Prim.Native.Nat.{ℕ, ◌+◌, ◌*◌, ◌<◌, ◌≤◌}
+use Prim.Native.Nat.{ℕ, zero, suc, ◌+◌, ◌*◌, ◌<◌, ◌≤◌}
 use native.Mathlib.Omega.{arith}
 use lib.ListN.{length, get_or, take, drop, length-drop}
 use lib.Seq.{length-take-le, get_or-take, get_or-drop}
@@ -14,8 +15,13 @@ use Rattle.algebra.specs.Lists.{tab, stack, entry}
 use Rattle.algebra.proofs.Lists.{length_tab, get_or_tab}
 use Rattle.algebra.proofs.Stacks.{stack_cong}
 use Rattle.text.specs.Ascii.{ascii}
-use Rattle.page.specs.Page.{spaces, cell, line, panels, across, heading, row}
+use Rattle.page.specs.Page.{spaces, cell, line, panels, across, heading, row, gap}
 use Rattle.page.specs.Internal.{line_of}
+
+pub gap_later : (p : ℕ) → 0 < p → gap p ≡ ascii "\n"
+unfolding gap
+gap_later zero h = absurd (omega arith)
+gap_later (suc p) h = refl
 
 line_is : (label numbers : List ℕ) (f : ℕ → ℕ) (n : ℕ) → length numbers ≡ n → ((c : ℕ) → c < n → get_or numbers c 0 ≡ f c)
     → line_of label numbers ≡ line label f n

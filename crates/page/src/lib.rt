@@ -1,6 +1,4 @@
 // The kinship page (02, U6): a table as lines of text. `specs/Page.antt` tells how.
-// A function put_.. writes from an offset of the buffer on and returns the offset behind.
-// Stays: the offset goes beside the buffer, as in text, since `Writes` and its laws name both.
 #![tactic(auto)]
 
 ghost use Rattle.std.specs.Prelude.{◌≡◌, ◌||◌, [], ◌+◌, ◌*◌, ◌<◌, ◌≤◌, length};
@@ -14,6 +12,7 @@ ghost use Rattle.page.specs.Internal.{line_of, table_tests};
 
 use field::Modulus;
 use refusal::{MOST_SIZE, Refusal};
+use text::Writer;
 
 // The byte of a space.
 const SPACE: u8 = b' ';
@@ -69,28 +68,29 @@ fn fill_cell(out: &mut [u8], n: u32)
 }
 
 // Writes a number, right-aligned in so many columns.
-fn put_cell(out: &mut [u8], at: usize, width: usize, n: u32) -> usize
+#[tactic(auto, using(crate::proofs::Lengths::length_cell))]
+fn put_cell(w: &mut Writer, width: usize, n: u32)
     requires { length (decimal n) ≤ width }
-    ensures { Writes out.old at (cell width n) out.new result }
+    ensures { Writes w.old (cell width n) w.new }
 {
-    if out.len() < at || out.len() - at < width {
-        return at;
+    let at = w.at;
+    if w.out.len() < at || w.out.len() - at < width {
+        return;
     }
     let end = at + width;
-    fill_cell(&mut out[at..end], n);
-    end
+    fill_cell(&mut w.out[at..end], n);
+    w.at = end;
 }
 
 // Writes the numbers of a line, and its end.
-#[tactic(auto, using(crate::proofs::Lengths::number_fits))]
-fn put_numbers(out: &mut [u8], at: usize, numbers: &[u32]) -> usize
-    ensures { Writes out.old at (line_of [] numbers.now) out.new result }
+#[tactic(auto, using(text::proofs::Writes::then, text::proofs::Writes::writes_nothing, crate::proofs::Lengths::number_fits), unfolding(algebra::specs::Lists::stack, crate::specs::Page::line, crate::specs::Internal::line_of))]
+fn put_numbers(w: &mut Writer, numbers: &[u32])
+    ensures { Writes w.old (line_of [] numbers.now) w.new }
 {
-    let mut next = at;
     for number in numbers {
-        next = put_cell(out, next, CELL, *number);
+        put_cell(w, CELL, *number);
     }
-    text::put_bytes(out, next, b"\n")
+    w.put(b"\n");
 }
 
 // The numbers of six columns, from a panel's first on.
@@ -104,23 +104,23 @@ fn six_columns(p: usize) -> [u32; MOST_ACROSS]
 }
 
 // Writes a line: a row number and elements.
-fn put_row(out: &mut [u8], at: usize, number: u32, elements: &[u32]) -> usize
+#[tactic(auto, using(text::proofs::Writes::then, text::proofs::Decimals::decimal_short), unfolding(crate::specs::Page::line, crate::specs::Internal::line_of))]
+fn put_row(w: &mut Writer, number: u32, elements: &[u32])
     requires { number < 100000 }
-    ensures { Writes out.old at (line_of (cell 5 number) elements.now) out.new result }
+    ensures { Writes w.old (line_of (cell 5 number) elements.now) w.new }
 {
-    let next = put_cell(out, at, LABEL, number);
-    put_numbers(out, next, elements)
+    put_cell(w, LABEL, number);
+    put_numbers(w, elements);
 }
 
 // Writes what stands before a panel.
-#[tactic(auto, using(text::proofs::Writes::writes_nothing), unfolding(crate::specs::Page::gap))]
-fn put_gap(out: &mut [u8], at: usize, p: usize) -> usize
-    ensures { Writes out.old at (gap p) out.new result }
+#[tactic(auto, using(text::proofs::Writes::writes_nothing, crate::proofs::Lines::gap_later), unfolding(crate::specs::Page::gap))]
+fn put_gap(w: &mut Writer, p: usize)
+    ensures { Writes w.old (gap p) w.new }
 {
-    if p == 0 {
-        return at;
+    if p != 0 {
+        w.put(b"\n");
     }
-    text::put_bytes(out, at, b"\n")
 }
 
 // How many panels a table has.
@@ -183,46 +183,44 @@ impl Table<'_> {
 
     // Writes the heading of a panel.
     #[tactic(auto, unfolding(crate::specs::Page::panels))]
-    fn put_heading(&self, out: &mut [u8], at: usize, p: usize) -> usize
+    fn put_heading(&self, w: &mut Writer, p: usize)
         requires { p < panels self.now.columns }
-        ensures { Writes out.old at (heading self.now.columns p) out.new result }
+        ensures { Writes w.old (heading self.now.columns p) w.new }
     {
         let columns = six_columns(p);
         let count = self.panel_width(p);
-        let next = text::put_bytes(out, at, b"     ");
-        put_numbers(out, next, &columns[..count])
+        w.put(b"     ");
+        put_numbers(w, &columns[..count]);
     }
 
     // Writes a panel.
-    #[tactic(auto, unfolding(crate::specs::Page::panels))]
-    fn put_panel(&self, out: &mut [u8], at: usize, p: usize) -> usize
+    #[tactic(auto, using(text::proofs::Writes::then, text::proofs::Writes::writes_nothing), unfolding(algebra::specs::Lists::stack, crate::specs::Page::panels, crate::specs::Page::panel))]
+    fn put_panel(&self, w: &mut Writer, p: usize)
         requires { p < panels self.now.columns }
         ensures { let t = self.now in
-            Writes out.old at (panel t.rows t.columns t.elements.now p) out.new result }
+            Writes w.old (panel t.rows t.columns t.elements.now p) w.new }
     {
         let left = p * MOST_ACROSS;
         let count = self.panel_width(p);
         let elements = self.elements;
-        let mut next = self.put_heading(out, at, p);
+        self.put_heading(w, p);
         for i in 0..self.rows {
             let start = i * self.columns + left;
             let end = start + count;
-            next = put_row(out, next, i as u32 + 1, &elements[start..end]);
+            put_row(w, i as u32 + 1, &elements[start..end]);
         }
-        next
     }
 
-    // Writes the page to the front of the output, and returns its length.
-    fn put_page(&self, out: &mut [u8]) -> usize
+    // Writes the page.
+    #[tactic(auto, using(text::proofs::Writes::then, text::proofs::Writes::writes_nothing), unfolding(algebra::specs::Lists::stack, crate::specs::Page::page))]
+    fn put_page(&self, w: &mut Writer)
         ensures { let t = self.now in
-            Writes out.old 0 (page t.rows t.columns t.elements.now) out.new result }
+            Writes w.old (page t.rows t.columns t.elements.now) w.new }
     {
-        let mut next = 0;
         for p in 0..panel_count(self.columns) {
-            next = put_gap(out, next, p);
-            next = self.put_panel(out, next, p);
+            put_gap(w, p);
+            self.put_panel(w, p);
         }
-        next
     }
 }
 
@@ -268,6 +266,7 @@ pub fn write_page(
         columns: r as usize,
         elements: table,
     };
-    whole.put_page(out);
+    let mut w = Writer { out, at: 0 };
+    whole.put_page(&mut w);
     Ok(())
 }

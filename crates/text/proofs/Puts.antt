@@ -1,11 +1,10 @@
 -- Laws of bytes put into a buffer.
 --
---   put_fits, after_fits    the bytes fit
---   put_over, after_over    they do not
---   after_within            the offset after them does not leave the buffer
---   length_put              a buffer keeps its length
---   put_put                 some bytes, and others after them, where all fit
---   same_bytes              the same byte everywhere
+--   put_fits     the bytes fit
+--   put_over     they do not
+--   length_put   a buffer keeps its length
+--   put_put      some bytes, and others after them, where all fit
+--   same_bytes   the same byte everywhere
 use mathlib.Core.Path.{◌≡◌, refl, sym, ap, ◌∙◌}
 use mathlib.Core.Logic.{⊎_elim}
 use mathlib.Core.List.{List, ◌++◌, append_assoc}
@@ -19,7 +18,7 @@ use borrow.Author.Tests.{le-leb, lt-leb}
 use Rattle.std.proofs.lemmas.List.{replicate_more}
 use Rattle.algebra.specs.Lists.{tab}
 use Rattle.algebra.proofs.Orders.{le_or_lt}
-use Rattle.text.specs.Internal.{fits, put, after}
+use Rattle.text.specs.Internal.{fits, put}
 
 module _ (buffer : List ℕ) (at : ℕ) (bytes : List ℕ) where
   pub put_fits : at + length bytes ≤ length buffer → put buffer at bytes ≡ paste buffer at bytes (length bytes)
@@ -29,18 +28,6 @@ module _ (buffer : List ℕ) (at : ℕ) (bytes : List ℕ) where
   pub put_over : length buffer < at + length bytes → put buffer at bytes ≡ buffer
   unfolding put fits
   put_over h = rw (lt-leb (at + length bytes) (length buffer) h)
-
-  pub after_fits : at + length bytes ≤ length buffer → after at bytes buffer ≡ at + length bytes
-  unfolding after fits
-  after_fits h = rw (le-leb (at + length bytes) (length buffer) h)
-
-  pub after_over : length buffer < at + length bytes → after at bytes buffer ≡ at
-  unfolding after fits
-  after_over h = rw (lt-leb (at + length bytes) (length buffer) h)
-
-  pub after_within : at ≤ length buffer → after at bytes buffer ≤ length buffer
-  after_within within =
-      ⊎_elim (λ h. omega (arith, after_fits h)) (λ h. omega (arith, after_over h)) (le_or_lt (at + length bytes) (length buffer))
 
   pub length_put : length (put buffer at bytes) ≡ length buffer
   length_put =
@@ -67,11 +54,10 @@ module _ (buffer : List ℕ) (at : ℕ) (xs ys : List ℕ) (room : at + length x
       ∙ ap (drop (length ys)) (drop-paste buffer at xs (length xs) (omega arith) (le_refl (length xs)))
       ∙ drop-drop (length ys) (at + length xs) buffer
 
-  pub put_put : put (put buffer at xs) (after at xs buffer) ys ≡ put buffer at (xs ++ ys)
+  pub put_put : put (put buffer at xs) (at + length xs) ys ≡ put buffer at (xs ++ ys)
   unfolding first
   put_put =
-      ap (λ (k : ℕ). put (put buffer at xs) k ys) (after_fits buffer at xs (omega arith))
-      ∙ ap (λ (zs : List ℕ). put zs (at + length xs) ys) (put_fits buffer at xs (omega arith))
+      ap (λ (zs : List ℕ). put zs (at + length xs) ys) (put_fits buffer at xs (omega arith))
       ∙ put_fits first (at + length xs) ys (omega (arith, length-paste buffer at xs (length xs) (omega arith) (le_refl (length xs))))
       ∙ ap (λ (zs : List ℕ). zs ++ take (length ys) ys ++ drop (at + length xs + length ys) first) before_second
       ∙ ap (λ (zs : List ℕ). take at buffer ++ xs ++ take (length ys) ys ++ zs) after_second

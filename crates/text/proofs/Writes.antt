@@ -1,6 +1,5 @@
--- Laws of text written into a buffer.
+-- Laws of text written on a cursor.
 --
---   writes           what putting bytes gives
 --   writes_nothing   no text
 --   writes_over      a text that has no room
 --   writes_part      a text that takes the place of as many bytes
@@ -13,71 +12,85 @@ use Prim.Native.Nat.{ℕ, ◌+◌, ◌<◌, ◌≤◌}
 use native.Mathlib.Omega.{arith}
 use lib.ListN.{length, take, drop, length-append, drop_of_length-le}
 use lib.Seq.{take-length, drop-drop, paste-zero}
-use Rattle.text.specs.Internal.{put, after, Writes}
-use Rattle.text.proofs.Puts.{put_fits, after_fits, after_within, length_put, put_put}
+use Rattle.text.specs.declared.Writer.{Writer}
+use Rattle.text.specs.Internal.{put, Writes}
+use Rattle.text.proofs.Puts.{put_fits, length_put, put_put}
 
-pub writes : (out : List ℕ) (at : ℕ) (text : List ℕ) {exit : List ℕ} {end : ℕ} → (end ≡ after at text out) × (exit ≡ put out at text)
-    → Writes out at text exit end
-writes out at text e = record {
-  kept = ap length e.1 ∙ length_put out at text;
-  within = λ h. omega (arith, e.0, after_within out at text h);
-  is = λ fits. e.1;
-  behind = λ fits. e.0 ∙ after_fits out at text fits;
-}
-
-pub writes_nothing : (out : List ℕ) (at : ℕ) → Writes out at [] out at
-writes_nothing out at = record {
+pub writes_nothing : (w : Writer) → Writes w [] w
+writes_nothing w = record {
+  same_reference = refl;
   kept = refl;
   within = λ h. h;
-  is = λ fits. paste-zero out at [] ∙ sym (put_fits out at [] fits);
+  is = λ fits. paste-zero w.out.now w.at [] ∙ sym (put_fits w.out.now w.at [] fits);
   behind = λ fits. omega arith;
 }
 
-pub writes_over : (out : List ℕ) (at : ℕ) (text : List ℕ) → length out < at + length text → Writes out at text out at
-writes_over out at text over = record { kept = refl; within = λ h. h; is = λ fits. absurd (omega arith); behind = λ fits. absurd (omega arith) }
+pub writes_over : (w : Writer) (text : List ℕ) → length w.out.now < w.at + length text → Writes w text w
+writes_over w text over = record {
+  same_reference = refl;
+  kept = refl;
+  within = λ h. h;
+  is = λ fits. absurd (omega arith);
+  behind = λ fits. absurd (omega arith);
+}
 
-pub writes_part : (out : List ℕ) (at : ℕ) (text : List ℕ) {part : List ℕ} {k end : ℕ} → at + length text ≤ length out → part ≡ text
-    → k ≡ length text → end ≡ at + length text → Writes out at text (take at out ++ (part ++ drop k (drop at out))) end
-writes_part out at text {k = k} room is long behind =
-    writes out at text (
-      behind ∙ sym (after_fits out at text room),
-      ap (λ (xs : List ℕ). take at out ++ (xs ++ drop k (drop at out))) is
-          ∙ ap (λ (n : ℕ). take at out ++ (text ++ drop n (drop at out))) long
-          ∙ ap (λ (xs : List ℕ). take at out ++ (text ++ xs)) (drop-drop (length text) at out)
-          ∙ sym (append_assoc (take at out) text (drop (at + length text) out))
-          ∙ ap (λ (xs : List ℕ). take at out ++ xs ++ drop (at + length text) out) (sym (take-length text))
-          ∙ sym (put_fits out at text room),
-    )
+pub writes_part : (w : Writer) (text : List ℕ) {w' : Writer} {part : List ℕ} {k : ℕ} → w.at + length text ≤ length w.out.now
+    → part ≡ text → k ≡ length text
+    → w'.out.ghost_name ≡ w.out.ghost_name
+    → w'.out.now ≡ take w.at w.out.now ++ (part ++ drop k (drop w.at w.out.now))
+    → w'.at ≡ w.at + length text
+    → Writes w text w'
+writes_part w text {w'} {k = k} room is long same_reference now behind =
+    let out = w.out.now in
+    let at = w.at in
+    let stands : w'.out.now ≡ put out at text =
+    now
+    ∙ ap (λ (xs : List ℕ). take at out ++ (xs ++ drop k (drop at out))) is
+    ∙ ap (λ (n : ℕ). take at out ++ (text ++ drop n (drop at out))) long
+    ∙ ap (λ (xs : List ℕ). take at out ++ (text ++ xs)) (drop-drop (length text) at out)
+    ∙ sym (append_assoc (take at out) text (drop (at + length text) out))
+    ∙ ap (λ (xs : List ℕ). take at out ++ xs ++ drop (at + length text) out) (sym (take-length text))
+    ∙ sym (put_fits out at text room) in
+    record {
+      same_reference = same_reference;
+      kept = ap length stands ∙ length_put out at text;
+      within = λ h. omega arith;
+      is = λ fits. stands;
+      behind = λ fits. behind;
+    }
 
-pub then : {a b c xs ys : List ℕ} {at e f : ℕ} → Writes a at xs b e → Writes b e ys c f → Writes a at (xs ++ ys) c f
-then {a} {b} {c} {xs} {ys} {at} {e} {f} p q = record { kept = q.kept ∙ p.kept; within = within; is = is; behind = behind }
+pub then : {u v w : Writer} {xs ys : List ℕ} → Writes u xs v → Writes v ys w → Writes u (xs ++ ys) w
+then {u} {v} {w} {xs} {ys} p q = record {
+  same_reference = q.same_reference ∙ p.same_reference;
+  kept = q.kept ∙ p.kept;
+  within = λ h. omega (arith, q.within (omega (arith, p.within h)));
+  is = is;
+  behind = λ h. let r = both h in omega (arith, length-append xs ys, p.behind r.0, q.behind (room h));
+}
   where
-    within : at ≤ length a → f ≤ length a
-    within h = omega (arith, q.within (omega (arith, p.within h, p.kept)), p.kept)
-
-    both : at + length (xs ++ ys) ≤ length a → (at + length xs ≤ length a) × (at + length xs + length ys ≤ length a)
+    both : u.at + length (xs ++ ys) ≤ length u.out.now
+        → (u.at + length xs ≤ length u.out.now) × (u.at + length xs + length ys ≤ length u.out.now)
     both h = omega (arith, length-append xs ys)
 
-    room : at + length (xs ++ ys) ≤ length a → e + length ys ≤ length b
-    room h = let f = both h in omega (arith, p.behind f.0, p.kept)
+    room : u.at + length (xs ++ ys) ≤ length u.out.now → v.at + length ys ≤ length v.out.now
+    room h = let r = both h in omega (arith, p.behind r.0)
 
-    is : at + length (xs ++ ys) ≤ length a → c ≡ put a at (xs ++ ys)
+    is : u.at + length (xs ++ ys) ≤ length u.out.now → w.out.now ≡ put u.out.now u.at (xs ++ ys)
     is h =
-        let f = both h in
+        let r = both h in
         q.is (room h)
-        ∙ ap (λ (l : List ℕ). put l e ys) (p.is f.0)
-        ∙ ap (λ (k : ℕ). put (put a at xs) k ys) (p.behind f.0 ∙ sym (after_fits a at xs f.0))
-        ∙ put_put a at xs ys f.1
+        ∙ ap (λ (l : List ℕ). put l v.at ys) (p.is r.0)
+        ∙ ap (λ (k : ℕ). put (put u.out.now u.at xs) k ys) (p.behind r.0)
+        ∙ put_put u.out.now u.at xs ys r.1
 
-    behind : at + length (xs ++ ys) ≤ length a → f ≡ at + length (xs ++ ys)
-    behind h = let g = both h in omega (arith, length-append xs ys, p.behind g.0, q.behind (room h))
+pub same : {w w' : Writer} {text other : List ℕ} → text ≡ other → Writes w text w' → Writes w other w'
+same {w} {w'} s written = subst (λ (l : List ℕ). Writes w l w') s written
 
-pub same : {a b text : List ℕ} {at e : ℕ} {other : List ℕ} → text ≡ other → Writes a at text b e → Writes a at other b e
-same {a} {b} {text} {at} {e} s w = subst (λ (l : List ℕ). Writes a at l b e) s w
-
-pub writes_all : {out text exit : List ℕ} {end : ℕ} → length text ≡ length out → Writes out 0 text exit end → exit ≡ text
-writes_all {out} {text} long w =
-    w.is (omega arith)
+pub writes_all : {w w' : Writer} {text : List ℕ} → w.at ≡ 0 → length text ≡ length w.out.now → Writes w text w' → w'.out.now ≡ text
+writes_all {w} {w'} {text} front long written =
+    let out = w.out.now in
+    written.is (omega arith)
+    ∙ ap (λ (k : ℕ). put out k text) front
     ∙ put_fits out 0 text (omega arith)
     ∙ ap (λ (xs : List ℕ). xs ++ drop (0 + length text) out) (take-length text)
     ∙ ap (λ (xs : List ℕ). text ++ xs) (drop_of_length-le out {i = 0 + length text} (omega arith))

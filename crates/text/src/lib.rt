@@ -1,10 +1,10 @@
 // Text in a buffer: bytes, and numbers in decimal.
 #![tactic(auto)]
 
-ghost use Rattle.std.specs.Prelude.{◌≡◌, ◌-◌, ◌%◌, length};
+ghost use Rattle.std.specs.Prelude.{◌≡◌, ◌+◌, ◌-◌, ◌%◌, ◌<◌, length};
 ghost use Rattle.algebra.specs.Lists.{tab};
 ghost use Rattle.text.specs.Decimal.{digit, decimal};
-ghost use Rattle.text.specs.Internal.{last_digits, put, after, put_last};
+ghost use Rattle.text.specs.Internal.{last_digits, put_last, Writes};
 
 // How many digits a u32 has at most.
 const DIGITS: usize = 10;
@@ -17,20 +17,37 @@ fn last_digit(n: u32) -> u8
     b'0' + (n % 10) as u8
 }
 
-// Writes the bytes from offset `at` on and returns the offset after them. Where they do not fit, it writes nothing and
-// returns `at`.
-// Stays: the offset goes beside the buffer, as `put`, `after` and `Writes` and the clauses of all callers name both.
-#[tactic(auto, unfolding(crate::specs::Internal::put, crate::specs::Internal::after, crate::specs::Internal::fits))]
-pub fn put_bytes(out: &mut [u8], at: usize, bytes: &[u8]) -> usize
-    ensures end { result ≡ after at bytes.now out.old }
-    ensures text { out.new ≡ put out.old at bytes.now }
-{
-    if out.len() < at || out.len() - at < bytes.len() {
-        return at;
+// A place in a buffer to write on: the offset of the next byte.
+#[derive(Drop)]
+pub struct Writer<'a> {
+    pub out: &'a mut [u8],
+    pub at: usize,
+}
+
+impl Writer<'_> {
+    // Writes the bytes. Where they do not fit, it writes nothing.
+    pub fn put(&mut self, bytes: &[u8])
+        ensures written { Writes self.old bytes.now self.new }
+        ensures nothing { length self.old.out.now < self.old.at + length bytes.now → self.new ≡ self.old }
+    {
+        let at = self.at;
+        if self.out.len() < at || self.out.len() - at < bytes.len() {
+            return;
+        }
+        let end = at + bytes.len();
+        self.out[at..end].copy_from_slice(bytes);
+        self.at = end;
     }
-    let end = at + bytes.len();
-    out[at..end].copy_from_slice(bytes);
-    end
+
+    // Writes the decimal digits of n. Where they do not fit, it writes nothing.
+    pub fn put_decimal(&mut self, n: u32)
+        ensures written { Writes self.old (decimal n) self.new }
+        ensures nothing { length self.old.out.now < self.old.at + length (decimal n) → self.new ≡ self.old }
+    {
+        let mut digits = [b'0'; DIGITS];
+        let start = put_digits(&mut digits, n);
+        self.put(&digits[start..]);
+    }
 }
 
 // Fills a buffer with one byte.
@@ -67,15 +84,4 @@ pub fn put_last_digits(out: &mut [u8], n: u32)
         out[start] = last_digit(left);
         left /= 10;
     }
-}
-
-// Writes the decimal digits of n from offset `at` on and returns the offset after them. Where they do not fit, it writes
-// nothing and returns `at`.
-pub fn put_decimal(out: &mut [u8], at: usize, n: u32) -> usize
-    ensures end { result ≡ after at (decimal n) out.old }
-    ensures text { out.new ≡ put out.old at (decimal n) }
-{
-    let mut digits = [b'0'; DIGITS];
-    let start = put_digits(&mut digits, n);
-    put_bytes(out, at, &digits[start..])
 }

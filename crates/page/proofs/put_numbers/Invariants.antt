@@ -7,4 +7,4 @@ use Rattle.page.proofs.put_numbers.Given as goal
 
 abbrev pub invariant-loop-number : goal.invariant-loop-number
 invariant-loop-number l =
-    Writes l.initial.out l.at (stack (λ k. cell 11 (get_or l.numbers k 0)) l.number-index) l.out l.next
+    Writes l.initial.w (stack (λ k. cell 11 (get_or l.numbers k 0)) l.number-index) l.w

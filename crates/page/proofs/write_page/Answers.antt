@@ -1,11 +1,12 @@
 -- `page::write_page` meets its contract.
-use mathlib.Core.Path.{◌≡◌, sym, ◌∙◌}
+use mathlib.Core.Path.{◌≡◌, refl, sym, ◌∙◌}
 use lib.ListN.{length}
+use Rattle.std.proofs.Common.{rules}
 use Rattle.std.specs.Prelude.{Ok}
 use Rattle.std.proofs.lemmas.Result.{err_from_is_err_and}
 use Rattle.refusal.specs.Chain.{answered}
 use Rattle.text.proofs.Writes.{writes_all}
-use Rattle.page.specs.Page.{page_tests}
+use Rattle.page.specs.Page.{page_tests, page_after}
 use Rattle.page.proofs.Lengths.{length_page}
 use Rattle.page.proofs.Outcomes.{Fits, fits, modulus_refused, past_modulus, kept, done}
 use Rattle.page.proofs.write_page.Goals as goal
@@ -46,5 +47,6 @@ returns c =
     let a = c.args in
     let p = passed (goal.at.returns c).In_ok-check_table in
     let s = p.all.sizes in
-    let text = writes_all (length_page a.t a.r a.table.now s.tall.high s.wide.low ∙ sym p.all.length_is) c.put_page.ensures in
-    record { number = p.none; text = text ∙ done a.modulus a.t a.r a.table.now a.out.now p.none }
+    let text = writes_all refl (length_page a.t a.r a.table.now s.tall.high s.wide.low ∙ sym p.all.length_is) c.put_page.ensures in
+    let told : c.put_page.new.w.out.now ≡ page_after a.modulus a.t a.r a.table.now a.out.now = text ∙ done a.modulus a.t a.r a.table.now a.out.now p.none in
+    record { number = p.none; text = search rules }

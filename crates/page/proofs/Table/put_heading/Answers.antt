@@ -6,8 +6,7 @@ use lib.ListN.{length}
 use lib.Seq.{length-take-le}
 use Rattle.algebra.specs.Lists.{tab}
 use Rattle.algebra.proofs.Lists.{length_tab}
-use Rattle.text.specs.Ascii.{ascii}
-use Rattle.text.proofs.Writes.{writes, then, same}
+use Rattle.text.proofs.Writes.{then, same}
 use Rattle.page.specs.Page.{spaces, line}
 use Rattle.page.specs.Internal.{line_of}
 use Rattle.page.proofs.Lines.{across_fits, heading_is}
@@ -33,4 +32,4 @@ unfolding line_of line spaces tab
 returns c =
     let a = c.args in
     same (heading_is a.self.now.columns a.p c.six_columns-columns.result c.requires c.six_columns-columns.ensures c.panel_width-count.ensures)
-    (then (writes a.out.now a.at (ascii "     ") (c.put_bytes-next.ensures.end, c.put_bytes-next.ensures.text)) c.put_numbers.ensures)
+    (then c.put.ensures.written c.put_numbers.ensures)

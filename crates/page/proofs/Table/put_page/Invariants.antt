@@ -7,4 +7,4 @@ use Rattle.page.proofs.Table.put_page.Given as goal
 
 abbrev pub invariant-loop-p : goal.invariant-loop-p
 invariant-loop-p l =
-    let t = l.self in Writes l.initial.out 0 (stack (λ k. gap k ++ panel t.rows t.columns t.elements.now k) l.p) l.out l.next
+    let t = l.self in Writes l.initial.w (stack (λ k. gap k ++ panel t.rows t.columns t.elements.now k) l.p) l.w

@@ -7,15 +7,11 @@ use native.Mathlib.Omega.{arith}
 use lib.ListN.{length}
 use Rattle.algebra.specs.Lists.{stack}
 use Rattle.algebra.proofs.Orders.{row_end}
-use Rattle.text.proofs.Writes.{writes_nothing, then, same}
-use Rattle.page.specs.Page.{across, panel}
+use Rattle.text.proofs.Writes.{then, same}
+use Rattle.page.specs.Page.{across}
 use Rattle.page.proofs.Lines.{across_fits, row_is}
 use Rattle.page.proofs.Table.put_panel.Goals as goal
 use Rattle.page.proofs.Table.put_panel.Goals.{In-loop-i}
-
-pub loop-i-init : goal.loop-i-init
-unfolding stack
-loop-i-init c = writes_nothing _ _
 
 -- a row's part of the table is inside it
 inside : (c : In-loop-i) → let t = c.args.self.now in
@@ -43,11 +39,4 @@ loop-i-preserved c =
     let start = l.i * t.columns + p * 6 in
     let wide : start + c.panel_width-count.result - start ≡ across t.columns p = omega (arith, c.panel_width-count.ensures) in
     let one = row_is t.columns t.elements.now p l.i {start = start} refl wide (omega arith) in
-    rw add-one (then l.invariant (same one c.put_row-next.ensures))
-
--- the heading, and all rows
-pub returns : goal.returns
-unfolding panel
-returns c =
-    let all : c.loop-i.i ≡ c.args.self.now.rows = omega arith in
-    then c.put_heading-next.ensures (rw all at c.loop-i.invariant)
+    rw add-one (then l.invariant (same one c.put_row.ensures))

@@ -5,4 +5,4 @@ use Rattle.page.specs.Page.{row}
 use Rattle.page.proofs.Table.put_panel.Given as goal
 
 abbrev pub invariant-loop-i : goal.invariant-loop-i
-invariant-loop-i l = Writes l.initial.out l.initial.next (stack (row l.self.columns l.elements l.p) l.i) l.out l.next
+invariant-loop-i l = Writes l.initial.w (stack (row l.self.columns l.elements l.p) l.i) l.w

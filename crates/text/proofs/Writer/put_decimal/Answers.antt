@@ -1,4 +1,4 @@
--- `text::put_decimal` meets its contract.
+-- `text::Writer::put_decimal` meets its contract.
 use mathlib.Core.List.{List, ◌++◌}
 use mathlib.Core.Path.{◌≡◌, sym, ap, ap₂, ◌∙◌}
 use Prim.Native.Nat.{ℕ, ◌-◌}
@@ -6,9 +6,9 @@ use native.Mathlib.Omega.{arith}
 use lib.ListN.{length, take, drop, replicate}
 use lib.Seq.{take_all, drop_at, length-take-le}
 use Rattle.text.specs.Decimal.{decimal}
-use Rattle.text.specs.Internal.{put, after, put_last}
+use Rattle.text.specs.Internal.{put_last}
 use Rattle.text.proofs.Decimals.{decimal_length}
-use Rattle.text.proofs.put_decimal.Goals as goal
+use Rattle.text.proofs.Writer.put_decimal.Goals as goal
 
 -- the digits that are handed on
 handed : (n start : ℕ) (digits : List ℕ) → start ≡ 10 - length (decimal n) → digits ≡ put_last (replicate 10 48) (decimal n)
@@ -24,7 +24,6 @@ handed n start digits first is =
 
 pub returns : goal.returns
 returns c =
-    let told = c.put_bytes.ensures in
     let digits = c.put_digits-start.ensures in
-    let a = c.args in
-    let e = handed a.n _ _ digits.start digits.digits in record { end = told.end ∙ ap (λ (bytes : List ℕ). after a.at bytes a.out.now) e; text = told.text ∙ ap (λ (bytes : List ℕ). put a.out.now a.at bytes) e }
+    let is = handed c.args.n _ _ digits.start digits.digits in
+    record { written = rw is at c.put.ensures.written; nothing = rw is at c.put.ensures.nothing }
