@@ -2,28 +2,31 @@
 --
 --   lists            a text at the front of a listing's buffer
 --   values_append, values_snoc, line_one   the values of two lists, one value more, a line of one value
---   row_more, grid_more    the values of a row and of a grid grow part by part
+--   row_none, grid_none, row_more, grid_more   the values of a row and of a grid, none and part by part
 use mathlib.Core.Path.{◌≡◌, refl, sym, ap, ◌∙◌}
 use mathlib.Core.List.{List, [], ◌∷◌, ◌++◌, append-nil, append_assoc}
-use Prim.Native.Nat.{ℕ, suc, ◌+◌, ◌≤◌}
+use Prim.Native.Nat.{ℕ, ◌+◌, ◌≤◌}
+use native.Mathlib.Numerals.{add-one}
 use native.Mathlib.Omega.{arith}
 use lib.ListN.{length}
 use borrow.Author.Tests.{le-leb}
 use Rattle.algebra.specs.Lists.{tab, grid}
 use Rattle.text.specs.Ascii.{ascii}
+use Rattle.text.specs.declared.Writer.{Writer}
 use Rattle.text.specs.Internal.{fits, put, Writes}
 use Rattle.lister.specs.Listing.{value, values, line, listing_room}
 use Rattle.lister.specs.Internal.{Lists}
 
-pub lists : {out text exit : List ℕ} {end : ℕ} → listing_room ≤ length out → Writes out 0 text exit end → Lists out text exit end
+pub lists : {w w' : Writer} {text : List ℕ} → w.at ≡ 0 → listing_room ≤ length w.out.now → Writes w text w'
+    → Lists w.out.now text w'.out.now w'.at
 unfolding put fits
-lists {out} {text} large w = record {
-  within = omega (arith, w.within (omega arith), w.kept);
+lists {w} {w'} {text} front large written = record {
+  within = omega (arith, written.within (omega arith));
   is = λ h.
-      let fit : 0 + length text ≤ length out = omega arith in
+      let fit : 0 + length text ≤ length w.out.now = omega arith in
       let none : 0 + length text ≡ length text = omega arith in
-      w.is fit ∙ rw (le-leb (0 + length text) (length out) fit, none);
-  long = λ h. omega (arith, w.behind (omega arith));
+      written.is (omega arith) ∙ rw front (rw (le-leb (0 + length text) (length w.out.now) fit, none));
+  long = λ h. omega (arith, written.behind (omega arith));
 }
 
 pub values_append : (xs ys : List ℕ) → values (xs ++ ys) ≡ values xs ++ values ys
@@ -39,10 +42,18 @@ pub line_one : (label : List ℕ) (n : ℕ) → line label (n ∷ []) ≡ label 
 unfolding line values
 line_one label n = ap (λ (l : List ℕ). label ++ (l ++ ascii "\n")) (append-nil (value n))
 
-pub row_more : (f : ℕ → ℕ) (j : ℕ) → values (tab f (suc j)) ≡ values (tab f j) ++ value (f j)
-unfolding tab
-row_more f j = values_snoc (tab f j) (f j)
+pub row_none : (f : ℕ → ℕ) → values (tab f 0) ≡ []
+unfolding tab values
+row_none f = refl
 
-pub grid_more : (f : ℕ → ℕ → ℕ) (columns i : ℕ) → values (grid f (suc i) columns) ≡ values (grid f i columns) ++ values (tab (f i) columns)
+pub grid_none : (f : ℕ → ℕ → ℕ) (columns : ℕ) → values (grid f 0 columns) ≡ []
+unfolding grid values
+grid_none f columns = refl
+
+pub row_more : (f : ℕ → ℕ) (j : ℕ) → values (tab f (j + 1)) ≡ values (tab f j) ++ value (f j)
+unfolding tab
+row_more f j = rw add-one (values_snoc (tab f j) (f j))
+
+pub grid_more : (f : ℕ → ℕ → ℕ) (columns i : ℕ) → values (grid f (i + 1) columns) ≡ values (grid f i columns) ++ values (tab (f i) columns)
 unfolding grid
-grid_more f columns i = values_append (grid f i columns) (tab (f i) columns)
+grid_more f columns i = rw add-one (values_append (grid f i columns) (tab (f i) columns))

@@ -9,6 +9,7 @@ use mathlib.Core.Bool.{Bool, true, false, cond}
 use mathlib.Core.List.{List, [], ◌∷◌, ◌++◌}
 use Prim.Native.Nat.{ℕ, zero, suc, ◌+◌, ◌*◌, ◌<◌, ◌≤◌}
 use native.Mathlib.Nat.{mul-le-mul}
+use native.Mathlib.Numerals.{add-one}
 use native.Mathlib.Omega.{arith}
 use lib.ListN.{length, length-append}
 use Rattle.algebra.specs.Lists.{tab, grid}
@@ -42,7 +43,7 @@ row_length f zero h = omega arith
 row_length f (suc columns) h =
     omega (
       arith,
-      ap length (row_more f columns),
+      rw add-one at (ap length (row_more f columns)),
       length-append (values (tab f columns)) (value (f columns)),
       row_length f columns (λ j l. h j (omega arith)),
       value_length (f columns) (h columns (omega arith)),
@@ -55,7 +56,7 @@ grid_length f zero columns h = omega arith
 grid_length f (suc rows) columns h =
     omega (
       arith,
-      ap length (grid_more f columns rows),
+      rw add-one at (ap length (grid_more f columns rows)),
       length-append (values (grid f rows columns)) (values (tab (f rows) columns)),
       grid_length f rows columns (λ i j a b. h i j (omega arith) b),
       row_length (f rows) columns (λ j l. h rows j (omega arith) l),

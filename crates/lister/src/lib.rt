@@ -1,6 +1,4 @@
 // The plan lister: reads a job's ten numbers as a line of text, and gives the text of its plan.
-// A function put_.. writes from an offset of the buffer on and returns the offset behind.
-// Stays: the offset goes beside the buffer, as `Writes` in the clauses of all of them names both.
 #![tactic(auto)]
 
 ghost use Rattle.std.specs.Prelude.{◌≡◌, ◌∷◌, [], ◌++◌, suc, ◌≤◌, length, drop};
@@ -24,6 +22,7 @@ ghost use Rattle.lister.specs.Internal.{Lists, side_text, places_text};
 use layout::{Series, Strides};
 use plan::{Plan, Table};
 use refusal::Refusal;
+use text::Writer;
 
 // The bytes in which every listing has room.
 pub const LISTING_ROOM: usize = 4096;
@@ -43,72 +42,71 @@ struct SideLine {
 }
 
 // Writes a space and the number.
-fn put_value(out: &mut [u8], at: usize, n: u32) -> usize
-    ensures { Writes out.old at (value n) out.new result }
+fn put_value(w: &mut Writer, n: u32)
+    ensures { Writes w.old (value n) w.new }
 {
-    let next = text::put_bytes(out, at, b" ");
-    text::put_decimal(out, next, n)
+    w.put(b" ");
+    w.put_decimal(n);
 }
 
 // Writes a label, one value, and the line's end.
-fn put_line(out: &mut [u8], at: usize, label: &[u8], n: u32) -> usize
-    ensures { Writes out.old at (line label.now (n ∷ [])) out.new result }
+#[tactic(auto, using(text::proofs::Writes::then, crate::proofs::Lines::line_one))]
+fn put_line(w: &mut Writer, label: &[u8], n: u32)
+    ensures { Writes w.old (line label.now (n ∷ [])) w.new }
 {
-    let a = text::put_bytes(out, at, label);
-    let b = put_value(out, a, n);
-    text::put_bytes(out, b, b"\n")
+    w.put(label);
+    put_value(w, n);
+    w.put(b"\n");
 }
 
 // Writes the values of one row of a series.
-fn put_row(out: &mut [u8], at: usize, series: Series, s: Strides, i: u8, columns: u8) -> usize
-    ensures { Writes out.old at (values (tab (exponent_by s series i) columns)) out.new result }
+#[tactic(auto, using(text::proofs::Writes::then, text::proofs::Writes::writes_nothing, crate::proofs::Lines::row_none, crate::proofs::Lines::row_more))]
+fn put_row(w: &mut Writer, series: Series, s: Strides, i: u8, columns: u8)
+    ensures { Writes w.old (values (tab (exponent_by s series i) columns)) w.new }
 {
-    let mut next = at;
     for j in 0..columns {
-        next = put_value(out, next, layout::exponent_of(series, s, i, j));
+        put_value(w, layout::exponent_of(series, s, i, j));
     }
-    next
 }
 
 // Writes the values of a series, row by row.
-fn put_grid(out: &mut [u8], at: usize, series: Series, s: Strides, rows: u8, columns: u8) -> usize
-    ensures { Writes out.old at (values (grid (exponent_by s series) rows columns)) out.new result }
+#[tactic(auto, using(text::proofs::Writes::then, text::proofs::Writes::writes_nothing, crate::proofs::Lines::grid_none, crate::proofs::Lines::grid_more))]
+fn put_grid(w: &mut Writer, series: Series, s: Strides, rows: u8, columns: u8)
+    ensures { Writes w.old (values (grid (exponent_by s series) rows columns)) w.new }
 {
-    let mut next = at;
     for i in 0..rows {
-        next = put_row(out, next, series, s, i, columns);
+        put_row(w, series, s, i, columns);
     }
-    next
 }
 
 // Writes the line of a side: the exponents of its blocks, a bar, and those of its masks.
-fn put_side(out: &mut [u8], at: usize, line: SideLine, s: Strides) -> usize
-    ensures { Writes out.old at (side_text line s) out.new result }
+fn put_side(w: &mut Writer, line: SideLine, s: Strides)
+    ensures { Writes w.old (side_text line s) w.new }
 {
-    let a = text::put_bytes(out, at, &[line.label]);
-    let b = put_grid(out, a, line.blocks, s, line.grid_rows, line.grid_columns);
-    let c = text::put_bytes(out, b, b" |");
-    let d = put_row(out, c, line.masks, s, 0, line.mask_count);
-    text::put_bytes(out, d, b"\n")
+    w.put(&[line.label]);
+    put_grid(w, line.blocks, s, line.grid_rows, line.grid_columns);
+    w.put(b" |");
+    put_row(w, line.masks, s, 0, line.mask_count);
+    w.put(b"\n");
 }
 
 // Writes the line of C: the places of its blocks.
-fn put_places(out: &mut [u8], at: usize, s: Strides, rows: u8, columns: u8) -> usize
-    ensures { Writes out.old at (places_text s rows columns) out.new result }
+fn put_places(w: &mut Writer, s: Strides, rows: u8, columns: u8)
+    ensures { Writes w.old (places_text s rows columns) w.new }
 {
-    let a = text::put_bytes(out, at, b"C");
-    let b = put_grid(out, a, Series::Places, s, rows, columns);
-    text::put_bytes(out, b, b"\n")
+    w.put(b"C");
+    put_grid(w, Series::Places, s, rows, columns);
+    w.put(b"\n");
 }
 
-// Writes the lines of the prime, the layout, the hosts and the answers needed, to the front of the buffer.
-fn put_numbers(out: &mut [u8], hosts: u32, plan: Plan) -> usize
-    ensures { Writes out.old 0 (number_lines hosts plan) out.new result }
+// Writes the lines of the prime, the layout, the hosts and the answers needed.
+fn put_numbers(w: &mut Writer, hosts: u32, plan: Plan)
+    ensures { Writes w.old (number_lines hosts plan) w.new }
 {
-    let a = put_line(out, 0, b"MODULUS", field::prime_of(plan.modulus));
-    let b = put_line(out, a, b"LAYOUT", u32::from(plan.layout));
-    let c = put_line(out, b, b"HOSTS", hosts);
-    put_line(out, c, b"NEEDED", plan.needed)
+    put_line(w, b"MODULUS", field::prime_of(plan.modulus));
+    put_line(w, b"LAYOUT", u32::from(plan.layout));
+    put_line(w, b"HOSTS", hosts);
+    put_line(w, b"NEEDED", plan.needed);
 }
 
 // Writes the seven lines of a plan to the front of the buffer, and returns their length. Every plan that planning makes has
@@ -135,17 +133,21 @@ pub fn list_plan(hosts: u32, plan: Plan, out: &mut [u8; LISTING_ROOM]) -> usize
         masks: Series::MasksB,
         mask_count: g.xb,
     };
-    let a = put_numbers(out, hosts, plan);
-    let b = put_side(out, a, line_a, strides);
-    let c = put_side(out, b, line_b, strides);
-    put_places(out, c, strides, g.m, g.n)
+    let mut w = Writer { out, at: 0 };
+    put_numbers(&mut w, hosts, plan);
+    put_side(&mut w, line_a, strides);
+    put_side(&mut w, line_b, strides);
+    put_places(&mut w, strides, g.m, g.n);
+    w.at
 }
 
 // Writes the line of a refusal to the front of the buffer, and returns its length.
 fn put_refused(out: &mut [u8; LISTING_ROOM], refusal: Refusal) -> usize
     ensures { Lists out.old (refused_text (number refusal)) out.new result }
 {
-    put_line(out, 0, b"REFUSED", refusal.number())
+    let mut w = Writer { out, at: 0 };
+    put_line(&mut w, b"REFUSED", refusal.number());
+    w.at
 }
 
 // The table of the ten numbers of a line.

@@ -68,13 +68,13 @@ fn fill_cell(out: &mut [u8], n: u32)
 }
 
 // Writes a number, right-aligned in so many columns.
-#[tactic(auto, using(crate::proofs::Lengths::length_cell))]
+#[tactic(auto, using(crate::proofs::Lengths::length_cell, text::proofs::Decimals::decimal_some))]
 fn put_cell(w: &mut Writer, width: usize, n: u32)
     requires { length (decimal n) ≤ width }
     ensures { Writes w.old (cell width n) w.new }
 {
     let at = w.at;
-    if w.out.len() < at || w.out.len() - at < width {
+    if w.out.len().saturating_sub(at) < width {
         return;
     }
     let end = at + width;
@@ -119,7 +119,7 @@ fn put_gap(w: &mut Writer, p: usize)
     ensures { Writes w.old (gap p) w.new }
 {
     if p != 0 {
-        w.put(b"\n");
+        w.put(b"\n")
     }
 }
 
@@ -212,7 +212,7 @@ impl Table<'_> {
     }
 
     // Writes the page.
-    #[tactic(auto, using(text::proofs::Writes::then, text::proofs::Writes::writes_nothing), unfolding(algebra::specs::Lists::stack, crate::specs::Page::page))]
+    #[tactic(auto, using(text::proofs::Writes::writes_nothing), unfolding(algebra::specs::Lists::stack, crate::specs::Page::page))]
     fn put_page(&self, w: &mut Writer)
         ensures { let t = self.now in
             Writes w.old (page t.rows t.columns t.elements.now) w.new }

@@ -1,14 +1,13 @@
 -- Laws of text written on a cursor.
 --
 --   writes_nothing   no text
---   writes_over      a text that has no room
 --   writes_part      a text that takes the place of as many bytes
 --   then             a text and another after it
 --   same             a text by another name
 --   writes_all       a text as long as the buffer
 use mathlib.Core.Path.{◌≡◌, refl, sym, ap, ◌∙◌, subst}
 use mathlib.Core.List.{List, [], ◌++◌, append_assoc, append-nil}
-use Prim.Native.Nat.{ℕ, ◌+◌, ◌<◌, ◌≤◌}
+use Prim.Native.Nat.{ℕ, ◌+◌, ◌≤◌}
 use native.Mathlib.Omega.{arith}
 use lib.ListN.{length, take, drop, length-append, drop_of_length-le}
 use lib.Seq.{take-length, drop-drop, paste-zero}
@@ -23,15 +22,6 @@ writes_nothing w = record {
   within = λ h. h;
   is = λ fits. paste-zero w.out.now w.at [] ∙ sym (put_fits w.out.now w.at [] fits);
   behind = λ fits. omega arith;
-}
-
-pub writes_over : (w : Writer) (text : List ℕ) → length w.out.now < w.at + length text → Writes w text w
-writes_over w text over = record {
-  same_reference = refl;
-  kept = refl;
-  within = λ h. h;
-  is = λ fits. absurd (omega arith);
-  behind = λ fits. absurd (omega arith);
 }
 
 pub writes_part : (w : Writer) (text : List ℕ) {w' : Writer} {part : List ℕ} {k : ℕ} → w.at + length text ≤ length w.out.now

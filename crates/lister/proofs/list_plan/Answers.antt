@@ -1,4 +1,5 @@
 -- `lister::list_plan` meets its contract.
+use mathlib.Core.Path.{refl}
 use native.Mathlib.Omega.{arith}
 use Rattle.text.proofs.Writes.{then, same}
 use Rattle.lister.specs.Listing.{a_line, b_line, c_line, plan_text}
@@ -11,8 +12,8 @@ unfolding plan_text a_line b_line c_line
 returns c =
     let f = c.strides_of-strides.ensures in
     let known = c.well_formed in
-    lists (omega arith)
-    (then c.put_numbers-a.ensures
-    (then (same (side_is f _ (omega (arith, known)) (omega (arith, known))) c.put_side-b.ensures)
-    (then (same (side_is f _ (omega (arith, known)) (omega (arith, known))) c.put_side-c.ensures)
+    lists refl (omega arith)
+    (then c.put_numbers.ensures
+    (then (same (side_is f _ (omega (arith, known)) (omega (arith, known))) c.put_side.ensures)
+    (then (same (side_is f _ (omega (arith, known)) (omega (arith, known))) c.put_side-2.ensures)
     (same (places_is f _ _ (omega (arith, known))) c.put_places.ensures))))

@@ -6,4 +6,4 @@ use Rattle.lister.specs.Listing.{values}
 use Rattle.lister.proofs.put_grid.Given as goal
 
 abbrev pub invariant-loop-i : goal.invariant-loop-i
-invariant-loop-i l = Writes l.initial.out l.at (values (grid (exponent_by l.s l.series) l.i l.columns)) l.out l.next
+invariant-loop-i l = Writes l.initial.w (values (grid (exponent_by l.s l.series) l.i l.columns)) l.w

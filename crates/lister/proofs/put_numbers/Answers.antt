@@ -6,6 +6,6 @@ use Rattle.lister.proofs.put_numbers.Goals as goal
 pub returns : goal.returns
 unfolding number_lines
 returns c =
-    let q = rw c.prime_of.ensures at c.put_line-a.ensures in
-    let layout = rw c.from.ensures at c.put_line-b.ensures in
-    then q (then layout (then c.put_line-c.ensures c.put_line.ensures))
+    let q = rw c.prime_of.ensures at c.put_line.ensures in
+    let layout = rw c.from.ensures at c.put_line-2.ensures in
+    then q (then layout (then c.put_line-3.ensures c.put_line-4.ensures))

@@ -1,4 +1,5 @@
 -- `lister::put_refused` meets its contract.
+use mathlib.Core.Path.{refl}
 use native.Mathlib.Omega.{arith}
 use Rattle.lister.specs.Listing.{refused_text}
 use Rattle.lister.proofs.Lines.{lists}
@@ -6,4 +7,4 @@ use Rattle.lister.proofs.put_refused.Goals as goal
 
 pub returns : goal.returns
 unfolding refused_text
-returns c = rw c.number.ensures at (lists (omega arith) c.put_line.ensures)
+returns c = rw c.number.ensures at (lists refl (omega arith) c.put_line.ensures)

@@ -6,4 +6,4 @@ use Rattle.lister.specs.Listing.{values}
 use Rattle.lister.proofs.put_row.Given as goal
 
 abbrev pub invariant-loop-j : goal.invariant-loop-j
-invariant-loop-j l = Writes l.initial.out l.at (values (tab (exponent_by l.s l.series l.i) l.j)) l.out l.next
+invariant-loop-j l = Writes l.initial.w (values (tab (exponent_by l.s l.series l.i) l.j)) l.w
