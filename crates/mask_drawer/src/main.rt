@@ -5,6 +5,7 @@
 ghost use Rattle.std.specs.Prelude.{◌≡◌, length};
 
 use program_lines::{STDIN_FILENO, say, say_fault, say_front, say_number, say_refused};
+use text::Writer;
 use text_numbers::past_mark;
 use words::room;
 
@@ -36,21 +37,12 @@ fn read(text: &[u8], numbers: &mut [u32]) -> usize
     }
 }
 
-// Writes a number and the end of its line.
-fn put_line(out: &mut [u8], at: usize, n: u32) -> usize
-    ensures { length out.new ≡ length out.old }
-{
-    let next = text::put_decimal(out, at, n);
-    text::put_bytes(out, next, b"\n")
-}
-
 // Writes the elements in decimal, one a line.
-fn put_elements(out: &mut [u8], elements: &[u32]) -> usize {
-    let mut at = 0;
+fn put_elements(w: &mut Writer, elements: &[u32]) {
     for &element in elements {
-        at = put_line(out, at, element);
+        w.put_decimal(element);
+        w.put(b"\n");
     }
-    at
 }
 
 // Draws elements from words and prints how many words were used, and the elements; or the number of the refusal.
@@ -60,8 +52,10 @@ fn draw(modulus: u32, words: &[u32], elements: &mut [u32], lines: &mut [u8]) {
         Ok(used) => {
             say_number(b"# USED ", used as u64);
             say(b"\n");
-            let n = put_elements(lines, elements);
-            say_front(lines, n);
+            let mut w = Writer { out: lines, at: 0 };
+            put_elements(&mut w, elements);
+            let n = w.at;
+            say_front(w.out, n);
         }
     }
 }

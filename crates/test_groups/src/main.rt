@@ -10,6 +10,7 @@ use message_header::{Header, Kind};
 use plan::Job;
 use refusal::Refusal;
 use share::Matrix;
+use text::Writer;
 
 // The file descriptor of standard output.
 const STDOUT_FILENO: i32 = 1;
@@ -279,9 +280,14 @@ fn count_all(points: &[u32], a: &[u32], b: &[u32], expected: &[u32]) -> u32 {
 // Prints some words and a number.
 fn say(words: &[u8], n: u32) {
     let mut out = io::buffer();
-    let at = text::put_bytes(&mut out, 0, words);
-    let end = text::put_decimal(&mut out, at, n).min(4096);
-    io::write_all(STDOUT_FILENO, &out[..end]);
+    let mut w = Writer {
+        out: &mut out,
+        at: 0,
+    };
+    w.put(words);
+    w.put_decimal(n);
+    let n = w.at;
+    io::write_all(STDOUT_FILENO, &w.out[..n]);
 }
 
 // Multiplies, counts, and prints. Where the product is refused, no table is right.

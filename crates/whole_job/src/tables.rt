@@ -1,6 +1,6 @@
 // The table, decoded and printed: its rows, and its kinship page.
 use crate::blocks::{ELEMENT_ROOM, area};
-use crate::lines::Lines;
+use crate::lines::{LINES_ROOM, Lines};
 use crate::planning::Whole;
 use plan::Job;
 use program_lines::{say, say_front};
@@ -44,7 +44,8 @@ fn say_rows<F: Fn(u32) -> Result<i64, Refusal>>(
 ) -> Result<(), Refusal>
     requires { F.IsAlwaysCallable read }
 {
-    let mut lines = Lines::new();
+    let mut bytes = room::<u8, LINES_ROOM>(0);
+    let mut lines = Lines::new(&mut bytes);
     for row in table.chunks(columns.max(1) as usize) {
         put_row(&mut lines, row, &read)?;
     }
