@@ -286,8 +286,8 @@ fn say(words: &[u8], n: u32) {
     };
     w.put(words);
     w.put_decimal(n);
-    let n = w.at;
-    io::write_all(STDOUT_FILENO, &w.out[..n]);
+    let end = w.at;
+    io::write_all(STDOUT_FILENO, &w.out[..end]);
 }
 
 // Multiplies, counts, and prints. Where the product is refused, no table is right.
