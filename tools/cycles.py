@@ -3,7 +3,8 @@
 
     tools/cycles.py
 
-It goes by names: a call is a function's name before a parenthesis or a turbofish, behind a dot or any path but that of another crate.
+It goes by names: a call is a function's name before a parenthesis or a turbofish, behind any path but that of another crate, or, of one
+that takes `self`, behind a dot.
 A function that is passed on as a value, or called by a name that an import gives, is not seen: where a file brings a name of its own
 crate under another one, or a cycle is declared to the prover, it ends with 1 as well. No crate calls one above it, so a cycle stands
 within a crate.
@@ -14,7 +15,8 @@ from pathlib import Path
 
 ROOT = Path(__file__).resolve().parent.parent
 FUNCTION = re.compile(r"\bfn (\w+)")
-CALL = re.compile(r"(?<!fn )(?:\b(\w+)::)?\b(\w+)(?:::<[^;(]*>)?\(")
+METHOD = re.compile(r"\bfn (\w+)[^(]*\(\s*(?:&\s*(?:'\w+ )?)?(?:mut )?self\b")
+CALL = re.compile(r"(?<!fn )(\.)?(?:\b(\w+)::)?\b(\w+)(?:::<[^;(]*>)?\(")
 HIDDEN = re.compile(r"#\[cycle|\buse (?:self|super|crate)::[^;]* as |\blet \w+ = (\w+);")
 
 
@@ -26,9 +28,10 @@ def text_of(crate):
 def functions_of(text, others):
     """The functions of a crate with what each calls there; others are the other crates."""
     parts = FUNCTION.split(text)[1:]
-    calls = {name: set() for name in parts[::2]}
+    calls, methods = {name: set() for name in parts[::2]}, set(METHOD.findall(text))
     for name, body in zip(parts[::2], parts[1::2]):
-        calls[name] |= {called for module, called in CALL.findall(body) if called in calls and module not in others}
+        found = {called for dot, module, called in CALL.findall(body) if module not in others and (not dot or called in methods)}
+        calls[name] |= found & set(calls)
     return calls
 
 

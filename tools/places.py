@@ -21,6 +21,8 @@ NUMBERED = {"refusal/src/lib.rt": "MOST_", "mukerihe/src/lib.rt": "", "mukerihe_
 CONTRACT = re.compile(r"ensures[^{]*\{[^}]*\b(first \(|answered\b)")
 TOLD = re.compile(r"\b(number|first|second|refused|range|fit|point|state) != 0|Refused\((number|n)\) => (number|n)\b|return refusal::[A-Z]")
 HAND = re.compile(r"fn (least|most|minus|pair|word|low_byte|element_at|copy_bytes|fill|clear|set_one|same|same_bytes|modulus_named|number_of|wide|bits_of|signed_value|is_digit|is_within|is_letter|stands_before|filled_words|filled_bytes|front_of|rest_of|put_sign|size_of)\(")
+# What a function calls that leaves the comparing, copying or converting to the library.
+STD = re.compile(r"\.(fill|copy_from_slice|min|max|get|contains|starts_with|cast_signed|cast_unsigned|is_ascii_\w+|iter_mut|rposition)\(|_be_bytes")
 
 
 class Item:
@@ -109,12 +111,12 @@ def places(root):
             add(1, i, f"fn {i.name}: a value beside a number")
         for m in re.finditer(r"^ *(?:'\w+: )?(while|loop)\b", i.text, re.M):
             add(3, i, f"fn {i.name}: {m[1]}", m.start())
-        if HAND.match(i.text[i.text.index("fn ") :]):
+        if HAND.match(i.text[i.text.index("fn ") :]) and not STD.search(i.bare):
             add(4, i, f"fn {i.name}")
         for m in re.finditer(r"\b(out|lines): &mut \[u8\],\s*at: usize|\b\w+: &mut \[\w+\],\s*count: usize|starts: &(?:mut )?\[usize; 8\]", i.bare):
             add(6, i, f"fn {i.name}: {' '.join(m[0].split())}")
-        for m in re.finditer(r"\b(upper|words|by_sign|minus): bool\b|match (call|section) \{", i.bare):
-            add(7, i, f"fn {i.name}: {m[0]}")
+        for m in re.finditer(r"\b(upper|words|by_sign|minus): bool\b|match (call|section) \{", i.text):
+            add(7, i, f"fn {i.name}: {m[0]}", m.start())
     shapes = defaultdict(list)
     for i in functions:
         s = shape(i)

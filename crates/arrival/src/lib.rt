@@ -90,6 +90,7 @@ impl Accepted {
 
     // Takes a message when the plan, the hosts heard and the store have passed: its block is written and its host counts as heard;
     // or it is in already; or it is refused.
+    // Stays: what the caller of `arrive` lends is handed on here, once; a struct of it would be no plainer.
     fn take_message(
         &self,
         heard: u64,
@@ -156,6 +157,7 @@ fn put_block(index: usize, size: usize, message: &[u8], store: &mut [u32])
 
 // Takes an answer's message at a minute: its elements are written over its host's block of the store, and its host counts as
 // heard; or it is in already, or refused by number, and the store stays as it was.
+// Stays: the signature is that of the documents, and C's call has it.
 pub fn arrive(
     job: Job,
     points: &[u32],

@@ -66,6 +66,7 @@ fn element_of(modulus: Modulus, word: u32) -> u32
 }
 
 // Writes the remainders of words that are all usable, so that several can be worked out at once.
+// Stays: a part of the words and of the output; a struct of both would be made anew for each part.
 fn put_all(modulus: Modulus, words: &[u32], out: &mut [u32])
     requires { (length (kept (prime modulus) words.now) ≡ length out.old) × (length words.now ≡ length out.old) }
     ensures { out.new ≡ kept (prime modulus) words.now }

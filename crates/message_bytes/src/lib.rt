@@ -63,6 +63,7 @@ pub fn bytes_below(modulus: Modulus, bytes: &[u8]) -> bool
 }
 
 // The bytes are those of the elements, four for each, and nothing after.
+// Stays: bytes beside elements, which `==` does not compare; and no early end, so that several can be compared at once.
 pub fn same_bytes(bytes: &[u8], xs: &[u32]) -> bool
     ensures { result ≡ same bytes.now (bytes_of xs.now) }
 {

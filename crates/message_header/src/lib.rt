@@ -34,6 +34,7 @@ pub enum Kind {
 impl From<Kind> for u32 {
     ghost from_gives = { λ kind n. n ≡ kind_number kind };
 
+    // Stays: a table of its own enum; only the shape is that of a layout's.
     fn from(kind: Kind) -> u32 {
         match kind {
             Kind::AShare => 1,
@@ -103,6 +104,7 @@ pub fn header_bytes(h: Header) -> [u8; HEADER_BYTES]
 }
 
 // The fields that a message's bytes tell.
+// Stays: three private functions look at a message of 16 bytes or more; a struct that says so would be no plainer.
 fn header_fields(message: &[u8]) -> Header
     requires { 16 ≤ length message.now }
     ensures { result ≡ header_of message.now }

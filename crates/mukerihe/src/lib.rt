@@ -38,6 +38,7 @@ fn element_count(bytes: usize) -> usize
 
 // The product of two shares as bytes. Their elements, and those of the product, are put into arrays of N: each has room for as
 // many as its buffer holds, or for the most that a block has.
+// Stays: the buffers of C's call, handed on once.
 fn product_in<const N: usize>(n: Numbers, a: &[u8], b: &[u8], out: &mut [u8]) -> Result<(), Refusal>
     requires { min (length a.now / 4) most_elements ≤ N
         × min (length b.now / 4) most_elements ≤ N
@@ -71,6 +72,7 @@ fn product_in<const N: usize>(n: Numbers, a: &[u8], b: &[u8], out: &mut [u8]) ->
 
 // The product of two shares as bytes: rows by inner times inner by columns. The output then holds it; or the call is refused, and
 // no byte of the output changes.
+// Stays: the signature is that of C's call.
 pub fn mukerihe_product(
     modulus: u32,
     rows: u32,

@@ -31,6 +31,7 @@ const FIELD_WORDS: usize = 6;
 const PLAN_WORDS: usize = 5;
 
 // What C is told of a call: 0 where it is carried out, and otherwise the number of its refusal.
+// Stays: C's interface.
 fn number_of(outcome: Result<(), Refusal>) -> u32
     ensures { result ≡ number_in outcome }
 {

@@ -173,6 +173,7 @@ struct Table<'a> {
 
 impl Table<'_> {
     // How many columns stand in a panel.
+    // Stays: the fact is of the index that is asked for, and not of the table.
     #[tactic(auto, unfolding(crate::specs::Page::panels, crate::specs::Page::across))]
     fn panel_width(&self, p: usize) -> usize
         requires { p < panels self.now.columns }

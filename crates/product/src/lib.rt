@@ -116,6 +116,7 @@ fn few_rows(
 }
 
 // The product of two shares, a few rows at a time. There is a sum for each column.
+// Stays: the fact is of the lent output, which each call of the three has to fit.
 fn multiply_rows(x: Shares, sums: &mut [u64], out: &mut [u32])
     requires { length sums.old ≡ x.sizes.columns × length out.old ≡ x.sizes.rows * x.sizes.columns }
     ensures { let s = x.entry.sizes in

@@ -33,6 +33,7 @@ fn side_weights(modulus: Modulus, strides: Strides, s: Side, x: u32, weights: &m
 }
 
 // The share of the host whose point is x, of an accepted job's plan: the tests 13 to 15, and then the block.
+// Stays: what the caller of `share` lends is handed on, once.
 fn share_planned(
     matrix: Matrix,
     plan: Plan,
@@ -58,6 +59,7 @@ fn share_planned(
 
 // The share of a host, numbered from 1: the output then holds it, or the call is refused and the output stays as it was. The
 // masks are lent, one block after another.
+// Stays: the signature is that of the documents, and C's calls have it.
 pub fn share(
     matrix: Matrix,
     job: Job,

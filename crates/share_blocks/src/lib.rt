@@ -87,6 +87,7 @@ struct Terms<'a> {
 
 impl Terms<'_> {
     // Adds the blocks' part of row i of the block to the sums: each row of blocks has one row of the matrix in it.
+    // Stays: the fact is of the row that is asked for, and not of what is encoded.
     fn add_blocks(&self, i: usize, sums: &mut [u64])
         requires { i < self.now.side.block_rows }
         ensures { let t = self.now in let before = sums.old in

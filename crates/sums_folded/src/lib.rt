@@ -23,6 +23,7 @@ fn pair_term(a: u32, x: u32, b: u32, y: u32) -> u64
 }
 
 // Adds two weights times their rows.
+// Stays: a weight and its row; a struct of the two would be taken apart in each loop.
 fn add_two_rows(sums: &mut [u64], weight: u32, row: &[u32], second: u32, next: &[u32])
     ensures { sums.new ≡ paired_two folded sums.old weight row.now second next.now }
 {
@@ -48,6 +49,7 @@ pub fn add_pair(sums: &mut [u64], weight: u32, row: &[u32], second: u32, next: &
 
 // Adds to the sums each weight times its row, two at a time; an odd last row goes beside itself, with the weight 0. The rows lie
 // in the source, each a stride after the one before.
+// Stays: rows lie in the source as the caller has them; a struct of three arguments would be no plainer.
 pub fn add_rows(sums: &mut [u64], weights: &[u32], source: &[u32], stride: usize)
     ensures { sums.new ≡ paired_added folded sums.old weights.now source.now stride }
 {

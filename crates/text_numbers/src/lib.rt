@@ -247,6 +247,7 @@ pub fn front_of(text: &[u8], count: usize) -> &[u8]
 }
 
 // The text from an offset on; nothing past its end.
+// Stays: one line as `next_rows` of sums; one function of both would be called from two crates that share none below.
 pub fn rest_of(text: &[u8], at: usize) -> &[u8]
     ensures { result.now ≡ drop at text.now }
 {

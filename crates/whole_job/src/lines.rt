@@ -36,13 +36,13 @@ impl<'a> Lines<'a> {
     }
 
     // Writes some bytes.
-    pub(crate) fn put(&mut self, bytes: &[u8]) {
+    pub(crate) fn add(&mut self, bytes: &[u8]) {
         self.flush();
         self.w.put(bytes);
     }
 
     // Writes a number.
-    pub(crate) fn put_number(&mut self, n: u32) {
+    pub(crate) fn add_number(&mut self, n: u32) {
         self.flush();
         self.w.put_decimal(n);
     }

@@ -13,9 +13,9 @@ const PAGE_ROOM: usize = 592560;
 // Writes a number, with its sign where it is below 0; its size is that of an element.
 fn put_signed(lines: &mut Lines, x: i64) {
     if x < 0 {
-        lines.put(b"-");
+        lines.add(b"-");
     }
-    lines.put_number(u32::try_from(x.unsigned_abs()).unwrap_or(0));
+    lines.add_number(u32::try_from(x.unsigned_abs()).unwrap_or(0));
 }
 
 // Writes a row of a table: what is read from each element.
@@ -28,11 +28,11 @@ fn put_row<F: Fn(u32) -> Result<i64, Refusal>>(
 {
     for (j, v) in row.iter().enumerate() {
         if j != 0 {
-            lines.put(b"\t");
+            lines.add(b"\t");
         }
         put_signed(lines, read(*v)?);
     }
-    lines.put(b"\n");
+    lines.add(b"\n");
     Ok(())
 }
 
