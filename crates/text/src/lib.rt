@@ -1,7 +1,7 @@
 // Text in a buffer: bytes, and numbers in decimal.
 #![tactic(auto)]
 
-ghost use Rattle.std.specs.Prelude.{◌≡◌, ◌+◌, ◌-◌, ◌%◌, ◌<◌, length};
+ghost use Rattle.std.specs.Prelude.{◌≡◌, ◌+◌, ◌-◌, ◌/◌, ◌%◌, ◌<◌, length};
 ghost use Rattle.algebra.specs.Lists.{tab};
 ghost use Rattle.text.specs.Decimal.{digit, decimal};
 ghost use Rattle.text.specs.Internal.{last_digits, put_last, Writes};
@@ -9,12 +9,13 @@ ghost use Rattle.text.specs.Internal.{last_digits, put_last, Writes};
 // How many digits a u32 has at most.
 const DIGITS: usize = 10;
 
-// The last digit of n.
+// The last digit of n, by its tenth: with `%` in place of the tenth, pages would take longer.
 #[tactic(auto, unfolding(crate::specs::Decimal::digit))]
-fn last_digit(n: u32) -> u8
+fn last_digit(n: u32, tenth: u32) -> u8
+    requires { tenth ≡ n / 10 }
     ensures { result ≡ digit (n % 10) }
 {
-    b'0' + (n % 10) as u8
+    b'0' + (n - 10 * tenth) as u8
 }
 
 // A place in a buffer to write on: the offset of the next byte.
@@ -66,11 +67,12 @@ pub fn put_digits(out: &mut [u8], n: u32) -> usize
 {
     let mut rest = n;
     for start in (0..out.len()).rev() {
-        out[start] = last_digit(rest);
+        let tenth = rest / 10;
+        out[start] = last_digit(rest, tenth);
         if rest < 10 {
             return start;
         }
-        rest /= 10;
+        rest = tenth;
     }
     0
 }
@@ -81,7 +83,8 @@ pub fn put_last_digits(out: &mut [u8], n: u32)
 {
     let mut left = n;
     for start in (0..out.len()).rev() {
-        out[start] = last_digit(left);
-        left /= 10;
+        let tenth = left / 10;
+        out[start] = last_digit(left, tenth);
+        left = tenth;
     }
 }
