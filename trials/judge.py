@@ -36,7 +36,7 @@ UNFIT = [
 ]
 
 # What the first message says where a fact fails: two sides differ, or a tactic finds no proof.
-FACT = re.compile(r"the two (types|sides)|^expected type|^`(omega|search|grind|cc|rw|grw|simp)`: |^give a proof of that as the last argument")
+FACT = re.compile(r"the two (types|sides|values)|^expected type|^`(omega|search|grind|cc|rw|grw|simp)`: |^give a proof of that as the last argument")
 
 # An example that fails by its value: both sides are computed, to numbers. Of short lists the whole equation is printed.
 VALUE = r"[\d\s∷\[\]]+"
