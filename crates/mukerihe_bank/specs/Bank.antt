@@ -1,5 +1,5 @@
--- The bank's calls for C. A job (`job_of`, crates/plan/specs/Words.antt) and the fields of a message travel as words, with how many there are: 1002, a number of the
--- libraries' own, is told before all others where they are not so many.
+-- The bank's calls for C. A job (`job_of`, crates/plan/specs/Words.antt) and the fields of a message travel as words, with how
+-- many there are: 1002, a number of the libraries' own, is told before all others where they are not so many.
 --
 --   header_of words            == the header of 6 words, in the order of the bytes
 --   counted n words tests     == the tests of a call that takes n words: 1002, then the others
