@@ -74,11 +74,11 @@ fn put_cell(w: &mut Writer, width: usize, n: u32)
     ensures { Writes w.old (cell width n) w.new }
 {
     let at = w.at;
-    if w.out.len().saturating_sub(at) < width {
-        return;
+    let mut end = at;
+    if at <= w.out.len() && width <= w.out.len() - at {
+        end = at + width;
+        fill_cell(&mut w.out[at..end], n);
     }
-    let end = at + width;
-    fill_cell(&mut w.out[at..end], n);
     w.at = end;
 }
 

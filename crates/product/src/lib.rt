@@ -82,7 +82,9 @@ fn at_once(modulus: Modulus, inner: usize) -> usize
 }
 
 // One row of the product, or two at once: then A's rows are packed, and the sums taken apart. That the prime is then small is
-// tested again: so the compiler knows it in the loops.
+// tested again: so the compiler knows it in the loops. It is no part of the loop over the rows: there the compiler would carry a dozen
+// offsets from row to row, which took as long as a short row.
+#[inline(never)]
 fn few_rows(
     modulus: Modulus,
     count: usize,
@@ -113,6 +115,28 @@ fn few_rows(
     sums_modular::add_rows(modulus, sums, &weights[..inner], b, columns);
     sums_packed::unpack::<false>(modulus, sums, &mut out[..columns]);
     sums_packed::unpack::<true>(modulus, sums, &mut out[columns..]);
+}
+
+// The product of two shares, row by row. There is a sum for each column.
+fn single_rows(x: Shares, sums: &mut [u64], out: &mut [u32])
+    requires { length sums.old ≡ x.sizes.columns × length out.old ≡ x.sizes.rows * x.sizes.columns }
+    ensures { let s = x.entry.sizes in
+        out.new ≡ product_of (prime x.entry.modulus) s.rows s.inner s.columns x.entry.a.now x.entry.b.now }
+{
+    let s = x.sizes;
+    for i in 0..s.rows {
+        let left = i * s.inner;
+        let left_end = left + s.inner;
+        let start = i * s.columns;
+        let end = start + s.columns;
+        product_row(
+            x.modulus,
+            &x.a[left..left_end],
+            x.b,
+            sums,
+            &mut out[start..end],
+        );
+    }
 }
 
 // The product of two shares, a few rows at a time. There is a sum for each column.
@@ -149,7 +173,11 @@ fn multiply_with<const SUMS: usize>(x: Shares, out: &mut [u32])
         out.new ≡ product_of (prime x.entry.modulus) s.rows s.inner s.columns x.entry.a.now x.entry.b.now }
 {
     let mut sums = [0u64; SUMS];
-    multiply_rows(x, &mut sums[..x.sizes.columns], out);
+    if at_once(x.modulus, x.sizes.inner) < 2 {
+        single_rows(x, &mut sums[..x.sizes.columns], out);
+    } else {
+        multiply_rows(x, &mut sums[..x.sizes.columns], out);
+    }
 }
 
 // The product of two shares, with few sums or the most.

@@ -1,10 +1,12 @@
 // The answers, taken in the order given, each at its minute.
 use crate::hosts::{Desk, Turn};
+use crate::lines::{LINES_ROOM, Lines};
 use crate::planning::Whole;
 use crate::sharing::Shares;
 use arrival::Arrived;
 use program_lines::{say, say_number};
 use refusal::{MOST_HOSTS, Refusal};
+use words::room;
 
 // Prints what became of a host's answer: some words and a number.
 fn say_answer(host: u32, words: &[u8], number: u32) {
@@ -77,11 +79,15 @@ pub(crate) fn hear_all(whole: &Whole, shares: Shares, store: &mut [u32]) -> u64 
 
 // Prints the hosts heard.
 pub(crate) fn say_heard(heard: u64) {
-    say(b"HEARD");
+    let mut bytes = room::<u8, LINES_ROOM>(0);
+    let mut lines = Lines::new(&mut bytes);
     for index in 0..MOST_HOSTS {
         if arrival_heard::is_heard(heard, index) {
-            say_number(b" ", u64::from(index + 1));
+            lines.add(b" ");
+            lines.add_number(index + 1);
         }
     }
-    say(b"\n");
+    lines.add(b"\n");
+    say(b"HEARD");
+    lines.print();
 }

@@ -1,4 +1,6 @@
-// Lines that are written into a buffer, and printed when it is nearly full or at their end.
+// Lines that are written into a buffer, and printed when it is nearly full or at their end. The buffer keeps its length.
+ghost use Rattle.std.specs.Prelude.{◌≡◌, length};
+
 use program_lines::say_front;
 use text::Writer;
 
@@ -22,28 +24,34 @@ impl<'a> Lines<'a> {
     }
 
     // Prints what is written, and goes on with nothing.
-    pub(crate) fn print(&mut self) {
+    pub(crate) fn print(&mut self)
+        ensures { length self.new.w.out.now ≡ length self.old.w.out.now }
+    {
         let n = self.w.at;
         say_front(self.w.out, n);
         self.w.at = 0;
     }
 
-    // Makes room for more: prints what is written where the buffer is nearly full.
-    fn flush(&mut self) {
+    // Makes room for an element and what stands behind it: prints what is written where the buffer is nearly full.
+    pub(crate) fn flush(&mut self)
+        ensures { length self.new.w.out.now ≡ length self.old.w.out.now }
+    {
         if FULL <= self.w.at {
             self.print();
         }
     }
 
     // Writes some bytes.
-    pub(crate) fn add(&mut self, bytes: &[u8]) {
-        self.flush();
+    pub(crate) fn add(&mut self, bytes: &[u8])
+        ensures { length self.new.w.out.now ≡ length self.old.w.out.now }
+    {
         self.w.put(bytes);
     }
 
     // Writes a number.
-    pub(crate) fn add_number(&mut self, n: u32) {
-        self.flush();
+    pub(crate) fn add_number(&mut self, n: u32)
+        ensures { length self.new.w.out.now ≡ length self.old.w.out.now }
+    {
         self.w.put_decimal(n);
     }
 }

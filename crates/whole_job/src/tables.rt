@@ -1,4 +1,6 @@
 // The table, decoded and printed: its rows, and its kinship page.
+ghost use Rattle.std.specs.Prelude.{◌≡◌, length};
+
 use crate::blocks::{ELEMENT_ROOM, area};
 use crate::lines::{LINES_ROOM, Lines};
 use crate::planning::Whole;
@@ -11,7 +13,9 @@ use words::room;
 const PAGE_ROOM: usize = 592560;
 
 // Writes a number, with its sign where it is below 0; its size is that of an element.
-fn put_signed(lines: &mut Lines, x: i64) {
+fn put_signed(lines: &mut Lines, x: i64)
+    ensures { length lines.new.w.out.now ≡ length lines.old.w.out.now }
+{
     if x < 0 {
         lines.add(b"-");
     }
@@ -30,6 +34,7 @@ fn put_row<F: Fn(u32) -> Result<i64, Refusal>>(
         if j != 0 {
             lines.add(b"\t");
         }
+        lines.flush();
         put_signed(lines, read(*v)?);
     }
     lines.add(b"\n");

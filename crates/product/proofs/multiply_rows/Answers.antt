@@ -10,8 +10,7 @@ use Rattle.algebra.proofs.Grids.{rows_none, rows_some, rows_all}
 use Rattle.field.specs.Modulus.{prime}
 use Rattle.product.specs.Product.{product_of}
 use Rattle.product.specs.Internal.{AtOnce}
-use Rattle.product.proofs.Rows.{part_rows}
-use Rattle.product.proofs.multiply_rows.Invariants.{element}
+use Rattle.product.proofs.Rows.{part_rows, element}
 use Rattle.product.proofs.multiply_rows.Goals as goal
 use Rattle.product.proofs.multiply_rows.Goals.{After-min-n, After-few_rows}
 
