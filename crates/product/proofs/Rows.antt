@@ -4,7 +4,7 @@
 --   front_there   an array of which a front was lent
 --   two_rows      the halves of the sums by two packed rows are a product of two rows
 --   part_rows     a product by some rows of A's share is those rows of the product
---   element       an element of the product
+--   element       the elements of the product
 use mathlib.Core.Path.{◌≡◌, refl, ap, ap₂, ◌∙◌}
 use mathlib.Core.Bool.{Bool, true, false, cond}
 use mathlib.Core.List.{List, ◌++◌, append-nil}
@@ -123,5 +123,6 @@ part_rows q inner columns a b i n =
     ∙ get_or-drop (i * inner) a (k * inner + l) 0
     ∙ ap (λ (t : ℕ). get_or a t 0) there))))
 
+-- the product's elements
 unfoldable pub element : Modulus → ℕ → ℕ → List ℕ → List ℕ → ℕ → ℕ → ℕ
 element modulus inner columns a b i j = product_entry inner columns a b i j % prime modulus

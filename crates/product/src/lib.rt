@@ -117,7 +117,9 @@ fn few_rows(
     sums_packed::unpack::<true>(modulus, sums, &mut out[columns..]);
 }
 
-// The product of two shares, row by row. There is a sum for each column.
+// The product of two shares, row by row: what `multiply_rows` makes where one row is made at once, in a loop whose bounds the compiler
+// knows. There is a sum for each column.
+// Stays: the fact is of the lent output, which each call of the four has to fit.
 fn single_rows(x: Shares, sums: &mut [u64], out: &mut [u32])
     requires { length sums.old ≡ x.sizes.columns × length out.old ≡ x.sizes.rows * x.sizes.columns }
     ensures { let s = x.entry.sizes in
@@ -140,7 +142,7 @@ fn single_rows(x: Shares, sums: &mut [u64], out: &mut [u32])
 }
 
 // The product of two shares, a few rows at a time. There is a sum for each column.
-// Stays: the fact is of the lent output, which each call of the three has to fit.
+// Stays: as in `single_rows`.
 fn multiply_rows(x: Shares, sums: &mut [u64], out: &mut [u32])
     requires { length sums.old ≡ x.sizes.columns × length out.old ≡ x.sizes.rows * x.sizes.columns }
     ensures { let s = x.entry.sizes in

@@ -1,4 +1,4 @@
-// Lines that are written into a buffer, and printed when it is nearly full or at their end. The buffer keeps its length.
+// Lines that are written into a buffer, and printed by `flush` when it is nearly full, and at their end. The buffer keeps its length.
 ghost use Rattle.std.specs.Prelude.{◌≡◌, length};
 
 use program_lines::say_front;
@@ -41,14 +41,14 @@ impl<'a> Lines<'a> {
         }
     }
 
-    // Writes some bytes.
+    // Writes some bytes; nothing where there is no room, which `flush` makes.
     pub(crate) fn add(&mut self, bytes: &[u8])
         ensures { length self.new.w.out.now ≡ length self.old.w.out.now }
     {
         self.w.put(bytes);
     }
 
-    // Writes a number.
+    // Writes a number, likewise.
     pub(crate) fn add_number(&mut self, n: u32)
         ensures { length self.new.w.out.now ≡ length self.old.w.out.now }
     {
